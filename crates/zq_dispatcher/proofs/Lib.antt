@@ -15,3 +15,4 @@ pub mod Overs
 pub mod Listening
 pub mod Joining
 pub mod AskedDues
+pub mod Opened

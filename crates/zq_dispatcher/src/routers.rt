@@ -8,7 +8,7 @@ ghost use Rattle.zq_strategy.specs.Routers.{entry_at, source_at};
 ghost use Rattle.zq_strategy.specs.Trees.{to_children};
 ghost use Rattle.zq_machine.specs.State.{change_hat, hat_at};
 ghost use Rattle.zq_machine.specs.Trees.{own_told_on};
-ghost use Rattle.zq_dispatcher.specs.Routers.{entered, entry_change, other_router};
+ghost use Rattle.zq_dispatcher.specs.Routers.{entered, entry_change, has_entries_in, other_router};
 
 use crate::hats;
 use crate::telling::tell_change;
@@ -35,6 +35,16 @@ pub fn lacks_entry(hat: &Hat, router: Zid, key: &str, info: Option<QueryableInfo
     ensures { result ≡ (is_none info && is_none (entry_at router.0 key.now hat.now)) }
 {
     info.is_none() && hat.entry(router, key).is_none()
+}
+
+/// Whether routers of the region have an entry on the key.
+pub fn has_entries(hats: &RegionMap<Hat>, region: Region, key: &str) -> bool
+    ensures { result ≡ has_entries_in region key.now hats.now }
+{
+    match hats::hat_at(hats, region) {
+        Some(hat) => hat.entries().by_key().get(key).is_some(),
+        None => false,
+    }
 }
 
 /// What an entry that is this one, or goes, changes.

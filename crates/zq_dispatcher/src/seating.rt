@@ -7,7 +7,7 @@ ghost use Rattle.std.specs.Map.{remove_entry};
 ghost use Rattle.std.specs.Ordering.{nat_cmp};
 ghost use Rattle.zq_machine.specs.Deciding.{opened, seat};
 ghost use Rattle.zq_machine.specs.State.{at};
-ghost use Rattle.zq_tables.specs.Naming.{no_keys};
+ghost use Rattle.zq_tables.specs.Naming.{closed_naming, naming_at, opened_naming};
 
 use std::collections::BTreeMap;
 use zq_key::memory::OutOfMemory;
@@ -49,9 +49,9 @@ pub fn enter(
     face: FaceId,
     place: OpenFace,
 ) -> Result<(), OutOfMemory>
-    requires named { at face.0 names.old ≡ None }
+    requires named { naming_at face.0 names.old ≡ None }
     requires absent { at face.0 faces.old.entries ≡ None }
-    ensures names { OnOk result (names.new ≡ insert_entry nat_cmp names.old face.0 no_keys) }
+    ensures names { OnOk result (names.new ≡ opened_naming face.0 names.old) }
     ensures faces { OnOk result (faces.new.entries ≡ insert_entry nat_cmp faces.old.entries face.0 place) }
     ensures no_names { OnErr result (names.new ≡ names.old) }
     ensures no_faces { OnErr result (faces.new.entries ≡ faces.old.entries) }
@@ -68,7 +68,7 @@ pub fn enter(
 
 /// A face leaves them. It takes no memory.
 pub fn leave(names: &mut Naming, faces: &mut BTreeMap<u32, OpenFace>, face: FaceId)
-    ensures names { names.new ≡ remove_entry (is_at (nat_cmp face.0)) names.old }
+    ensures names { names.new ≡ closed_naming face.0 names.old }
     ensures faces { faces.new.entries ≡ remove_entry (is_at (nat_cmp face.0)) faces.old.entries }
 {
     let _ = faces.remove(&face.0);

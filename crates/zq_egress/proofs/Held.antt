@@ -1,5 +1,5 @@
 -- A queryable or an interest that was held and is let go again leaves all as it was.
-use Rattle.std.proofs.Common.{◌≡◌, ℕ, Bool, true, false, List, Option, Some, None, refl, sym, ap}
+use Rattle.std.proofs.Common.{◌≡◌, ℕ, Bool, true, false, cond, List, Option, Some, None, refl, sym, ap}
 use Rattle.std.specs.Option.{is_some, is_none}
 use Rattle.std.specs.Ordering.{nat_cmp}
 use Rattle.std.specs.BTreeMap.{is_at}
@@ -10,7 +10,7 @@ use Rattle.std.proofs.lemmas.Map.Lookups.{exact_unsigned}
 use Rattle.zq_tables.specs.Naming.{Names, NamingState, change_naming, face_interests, face_keys, face_queryables, first_stays, text_at, with_interest, with_queryable, without_interest, without_queryable}
 use Rattle.zq_tables.proofs.Emptied.{changed_back, changed_idle}
 use Rattle.zq_query.proofs.Owing.{undone}
-use Rattle.zq_egress.specs.Neighbours.{asked_back, asking, is_fresh, taken_back}
+use Rattle.zq_egress.specs.Neighbours.{asked_back, asking, is_fresh}
 
 absent_of : {X : Type 0} (o : Option X) → true ≡ is_none o → o ≡ None
 absent_of None is = refl
@@ -31,7 +31,7 @@ first_kept : (id : ℕ) (t : List ℕ) (es : Names) → is_some (text_at id es) 
 first_kept id t es there = rw there refl
 
 -- a queryable
-pub put_back : (face id : ℕ) (t : List ℕ) (fresh : Bool) (s : NamingState) → fresh ≡ is_none (text_at id (face_queryables face s)) → taken_back face id fresh (change_naming face (with_queryable id t) s) ≡ s
+pub put_back : (face id : ℕ) (t : List ℕ) (fresh : Bool) (s : NamingState) → fresh ≡ is_none (text_at id (face_queryables face s)) → cond fresh (change_naming face (without_queryable id) (change_naming face (with_queryable id t) s)) (change_naming face (with_queryable id t) s) ≡ s
 put_back face id t true s is =
     changed_back face (with_queryable id t) (without_queryable id) s
     (ap (λ (l : Names). record (face_keys face s) { queryables = l }) (first_out id t (face_queryables face s) (absent_of _ is)))

@@ -7,3 +7,5 @@ pub mod Telling
 pub mod Unsent
 pub mod Selected
 pub mod Nearest
+pub mod EntryHeld
+pub mod Lasting

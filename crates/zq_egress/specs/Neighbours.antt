@@ -5,15 +5,11 @@ use Rattle.zq_told.specs.declared.types.FaceUpdate.{FaceUpdate}
 use Rattle.zq_told.specs.declared.types.Reason.TheVariants.{Update}
 use Rattle.zq_told.specs.ToldSets.{ToldSets}
 use Rattle.zq_told.specs.Telling.{tell_faces}
-use Rattle.zq_tables.specs.Naming.{NamingState, change_naming, face_interests, text_at, with_interest, without_interest, without_queryable}
+use Rattle.zq_tables.specs.Naming.{NamingState, change_naming, face_interests, text_at, with_interest, without_interest}
 
 -- what is told along trees, and what neighbours are told of what a call looks at
 abbrev pub told_with : ToldSets → List FaceUpdate → List Telling → List Telling
 told_with ears dues told = told ++ (tell_faces Update ears dues).tellings
-
--- a queryable that was held afresh is released again
-abbrev pub taken_back : ℕ → ℕ → Bool → NamingState → NamingState
-taken_back face id fresh s = if fresh then change_naming face (without_queryable id) s else s
 
 -- an interest with a key holds the key's node; one without a key holds none
 abbrev pub asking : ℕ → ℕ → Option (List ℕ) → NamingState → NamingState

@@ -10,6 +10,7 @@
 //! - `tell`: declarations to faces, marked where they answer an interest, and the numbers of keys that they need
 //! - `opening`: a face that joins the others, and what it is told
 //! - `neighbours`: what is told along trees and to neighbours, with room for what it leaves of them
+//! - `holding`: the node of a key is held, and what comes of it is told
 //! - `answers`: interests that are answered, and what their ends tell and leave of those who asked
 //! - `without`: which faces want numbers for keys, once an interest has ended
 //! - `gone`: messages of a call that is no request go through the gates
@@ -22,6 +23,7 @@ pub mod exits;
 pub mod face_mux;
 pub mod face_muxes;
 mod gone;
+pub mod holding;
 mod last;
 mod letting;
 pub mod neighbours;

@@ -4,14 +4,13 @@ ghost use Rattle.std.specs.Prelude.{◌≡◌, ◌≤◌, ◌++◌, [], drop, le
 ghost use Rattle.std.specs.List.{All};
 ghost use Rattle.zq_key.specs.Key.{is_key as key_of};
 ghost use Rattle.zq_strategy.specs.Tellings.{in_order};
-ghost use Rattle.zq_tables.specs.Naming.{change_naming, with_queryable};
 ghost use Rattle.zq_told.specs.declared.types.Reason.TheVariants.{Update};
 ghost use Rattle.zq_told.specs.Rooms.{AreBare, IsReady, ears_of};
 ghost use Rattle.zq_told.specs.Telling.{lacks_ids, tell_faces};
 ghost use Rattle.zq_machine.specs.Messages.{from_hat};
 ghost use Rattle.zq_machine.specs.State.{Core};
 ghost use Rattle.zq_machine.specs.Writing.{tell as tell_of};
-ghost use Rattle.zq_egress.specs.Neighbours.{taken_back, told_with};
+ghost use Rattle.zq_egress.specs.Neighbours.{told_with};
 ghost use Rattle.zq_egress.specs.Telling.{KeyedAs, behind, told_to, untold};
 
 use crate::tell::{InterestId, tell, untell};
@@ -19,9 +18,6 @@ use std::alloc::Global;
 use std::collections::BTreeMap;
 use zq_dispatcher::telling::add_all;
 use zq_interests::numbers::WantsKeys;
-use zq_key::Key;
-use zq_key::items::Items;
-use zq_key::message::FaceId;
 use zq_machine::face::OpenFace;
 use zq_machine::handed::HandedList;
 use zq_strategy::types::TellingList;
@@ -158,70 +154,4 @@ pub fn take_back(names: &mut Naming, ears: &mut ToldSets, told: &ToldAll, first:
 {
     untell(names, &told.handed.as_slice()[first..]);
     ears.give_back(told.plan.as_slice());
-}
-
-// A queryable that was held afresh is let go again.
-fn let_go(names: &mut Naming, face: FaceId, id: u32, fresh: bool)
-    ensures { names.new ≡ taken_back face.0 id fresh names.old }
-{
-    if fresh {
-        names.release_queryable(face, id);
-    }
-}
-
-/// A queryable is held, and what comes of it is told. Where it is refused, all is as it was, and the
-/// rooms are given back.
-pub fn hold_and_tell<K: WantsKeys>(
-    alloc: Global,
-    faces: &BTreeMap<u32, OpenFace>,
-    keyed: &K,
-    names: &mut Naming,
-    ears: &mut ToldSets,
-    face: FaceId,
-    id: u32,
-    key: &Key,
-    dues: &[FaceUpdate],
-    told: TellingList,
-) -> Result<ToldAll, TellRefusal>
-    requires { lacks_ids Update (ears_of ears.old) dues.now ≡ false → All (λ t. key_of t.key ≡ true) (told_with (ears_of ears.old) dues.now told) }
-    ensures ok { (c : Core) → c.faces ≡ faces.now.entries → KeyedAs (K.keyed keyed.now) c.interests → IfOk result (λ x. behind [] (tell_of c (map from_hat (in_order (told_with (ears_of ears.old) dues.now told))) (change_naming face.0 (with_queryable id key.now) names.old)) ≡ record { handed = x.handed; names = names.new }) }
-    ensures back { IfOk result (λ x. untold x.handed names.new ≡ change_naming face.0 (with_queryable id key.now) names.old) }
-    ensures plan { IfOk result (λ x. x.plan ≡ (tell_faces Update (ears_of ears.old) dues.now).plan) }
-    ensures ready { IfOk result (λ x. IsReady x.plan ears.new) }
-    ensures ears { ears_of ears.new ≡ ears_of ears.old }
-    ensures rooms { AreBare (tell_faces Update (ears_of ears.old) dues.now).plan ears.old → OnErr result (AreBare (tell_faces Update (ears_of ears.old) dues.now).plan ears.new) }
-    ensures err { OnErr result (names.new ≡ names.old) }
-    ensures free { OnOk result (lacks_ids Update (ears_of ears.old) dues.now ≡ false) }
-    ensures no_free { IsErrOf result TellRefusal.NoFreeId → lacks_ids Update (ears_of ears.old) dues.now ≡ true }
-{
-    let fresh = match names.hold_queryable(face, id, key) {
-        Ok(fresh) => fresh,
-        Err(_) => return Err(TellRefusal::OutOfMemory),
-    };
-    let none = Items::new(alloc);
-    match tell_all(alloc, faces, keyed, names, ears, dues, told, none) {
-        Ok(told) => Ok(told),
-        Err(refusal) => {
-            let_go(names, face, id, fresh);
-            Err(refusal)
-        }
-    }
-}
-
-/// A queryable that was held, afresh or not, and what came of it, are taken back, and the rooms are
-/// given back. It takes no memory.
-pub fn take_back_held(
-    names: &mut Naming,
-    ears: &mut ToldSets,
-    told: &ToldAll,
-    face: FaceId,
-    id: u32,
-    fresh: bool,
-)
-    ensures names { names.new ≡ taken_back face.0 id fresh (untold told.now.handed names.old) }
-    ensures ears { ears_of ears.new ≡ ears_of ears.old }
-    ensures rooms { AreBare told.now.plan ears.new }
-{
-    take_back(names, ears, told, 0);
-    let_go(names, face, id, fresh);
 }

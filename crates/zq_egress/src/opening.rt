@@ -6,7 +6,7 @@ ghost use Rattle.std.specs.Map.{remove_entry};
 ghost use Rattle.std.specs.Ordering.{nat_cmp};
 ghost use Rattle.zq_key.specs.Key.{is_key as key_of};
 ghost use Rattle.zq_strategy.specs.Tellings.{in_order};
-ghost use Rattle.zq_tables.specs.Naming.{no_keys};
+ghost use Rattle.zq_tables.specs.Naming.{closed_naming, naming_at, opened_naming};
 ghost use Rattle.zq_told.specs.declared.types.FacePlan.{FacePlan};
 ghost use Rattle.zq_told.specs.declared.types.Reason.TheVariants.{Update};
 ghost use Rattle.zq_told.specs.ToldSets.{at_face, closed, opened as heard_opened};
@@ -42,10 +42,10 @@ fn join(
     opened: OpenFace,
     last: u32,
 ) -> Result<(), OutOfMemory>
-    requires named { at face.0 names.old ≡ None }
+    requires named { naming_at face.0 names.old ≡ None }
     requires absent { at face.0 faces.old.entries ≡ None }
     requires unheard { at_face face.0 (ears_of ears.old) ≡ None }
-    ensures names { OnOk result (names.new ≡ insert_entry nat_cmp names.old face.0 no_keys) }
+    ensures names { OnOk result (names.new ≡ opened_naming face.0 names.old) }
     ensures faces { OnOk result (faces.new.entries ≡ insert_entry nat_cmp faces.old.entries face.0 opened) }
     ensures ears { OnOk result (ears_of ears.new ≡ heard_opened face.0 last (ears_of ears.old)) }
     ensures no_names { OnErr result (names.new ≡ names.old) }
@@ -77,13 +77,13 @@ pub fn join_and_tell<K: WantsKeys>(
     last: u32,
     dues: &[FaceUpdate],
 ) -> Result<ToldAll, TellRefusal>
-    requires named { at face.0 names.old ≡ None }
+    requires named { naming_at face.0 names.old ≡ None }
     requires absent { at face.0 faces.old.entries ≡ None }
     requires unheard { at_face face.0 (ears_of ears.old) ≡ None }
     requires keys { lacks_ids Update (heard_opened face.0 last (ears_of ears.old)) dues.now ≡ false → All (λ t. key_of t.key ≡ true) (told_with (heard_opened face.0 last (ears_of ears.old)) dues.now []) }
     ensures faces { OnOk result (faces.new.entries ≡ insert_entry nat_cmp faces.old.entries face.0 opened) }
-    ensures ok { (c : Core) → c.faces ≡ insert_entry nat_cmp faces.old.entries face.0 opened → KeyedAs (K.keyed keyed.now) c.interests → IfOk result (λ x. behind [] (tell_of c (map from_hat (in_order (told_with (heard_opened face.0 last (ears_of ears.old)) dues.now []))) (insert_entry nat_cmp names.old face.0 no_keys)) ≡ record { handed = x.handed; names = names.new }) }
-    ensures taken { IfOk result (λ x. untold x.handed names.new ≡ insert_entry nat_cmp names.old face.0 no_keys) }
+    ensures ok { (c : Core) → c.faces ≡ insert_entry nat_cmp faces.old.entries face.0 opened → KeyedAs (K.keyed keyed.now) c.interests → IfOk result (λ x. behind [] (tell_of c (map from_hat (in_order (told_with (heard_opened face.0 last (ears_of ears.old)) dues.now []))) (opened_naming face.0 names.old)) ≡ record { handed = x.handed; names = names.new }) }
+    ensures taken { IfOk result (λ x. untold x.handed names.new ≡ opened_naming face.0 names.old) }
     ensures plan { IfOk result (λ x. x.plan ≡ (tell_faces Update (heard_opened face.0 last (ears_of ears.old)) dues.now).plan) }
     ensures ready { IfOk result (λ x. IsReady x.plan ears.new) }
     ensures ears { OnOk result (ears_of ears.new ≡ heard_opened face.0 last (ears_of ears.old)) }
@@ -119,7 +119,7 @@ pub fn take_back_joined(
     told: &ToldAll,
     face: FaceId,
 )
-    ensures names { names.new ≡ remove_entry (is_at (nat_cmp face.0)) (untold told.now.handed names.old) }
+    ensures names { names.new ≡ closed_naming face.0 (untold told.now.handed names.old) }
     ensures faces { faces.new.entries ≡ remove_entry (is_at (nat_cmp face.0)) faces.old.entries }
     ensures ears { ears_of ears.new ≡ closed face.0 (ears_of ears.old) }
     ensures rooms { AreBare told.now.plan ears.new }

@@ -4,8 +4,9 @@ ghost use Rattle.std.specs.Map.{values_of};
 ghost use Rattle.zq_key.specs.Key.{is_key as key_of};
 ghost use Rattle.zq_query.specs.Asking.{are_distinct, face_numbers};
 ghost use Rattle.zq_route.specs.Selection.{best_overall, chosen, joined, picked, with_offers};
-ghost use Rattle.zq_machine.specs.Selecting.{target_of, carries_between, filter_for, offers_to, part_for, parts_for, passes, zid_of};
+ghost use Rattle.zq_machine.specs.Selecting.{target_of, carries_between, filter_for, offers_to, parts_for, passes, zid_of};
 ghost use Rattle.zq_egress.specs.Askers.{asker_of};
+ghost use Rattle.zq_egress.specs.Nearest.{TakesNearest};
 ghost use Rattle.std.specs.List.{flat_map};
 ghost use Rattle.std.specs.Prelude.{filter, map, true};
 
@@ -57,6 +58,17 @@ pub fn targets_of(alloc: Global, offers: &[QueryTargetQabl]) -> Result<Vec<FaceI
         targets.push(offer.face)?;
     }
     Ok(targets)
+}
+
+// The offers of all regions, one region after the other.
+fn all_of(alloc: Global, offered: Vec<OfferList>) -> Result<OfferList, OutOfMemory>
+    ensures { IfOk result (λ o. o ≡ joined offered.items) }
+{
+    let mut all = Vec::new(alloc);
+    for offers in offered {
+        all.append(&mut offers.into_vec())?;
+    }
+    Ok(Items::from_vec(all))
 }
 
 /// Who asks, and what decides between regions.
@@ -114,115 +126,96 @@ impl<'a> Asker<'a> {
         hat.compute_query_route(&src, key, node)
     }
 
-    // The offers that are for the asker's request.
-    fn passing(&self, alloc: Global, offers: OfferList) -> Result<OfferList, OutOfMemory>
-        ensures { IfOk result (λ l. l ≡ filter (passes (asker_of self.now)) offers) }
-    {
-        let mut kept = Items::new(alloc);
-        for offer in offers.into_vec() {
-            if self.passes(&offer) {
-                kept.push(offer)?;
-            }
-        }
-        Ok(kept)
-    }
-
-    // A region's part joins what earlier regions gave. The offers that pass are picked out first, so
-    // that the target picks among all that are left.
-    #[tactic(auto, using(crate::proofs::Selected::filter_all))]
-    fn add_part(
+    // What each region offers to the asker, in the order of the regions' places.
+    fn offers_by_region(
         &self,
         alloc: Global,
+        hats: &RegionMap<Hat>,
         key: &str,
-        target: QueryTarget,
-        route: &mut RouteBuilder<QueryTargetQabl>,
-        hat: &Hat,
-    ) -> Result<(), OutOfMemory>
+    ) -> Result<Vec<OfferList>, OutOfMemory>
         requires { IsTrue (key_of key.now) }
-        ensures { OnOk result (route.new ≡ with_offers route.old (chosen target (part_for (asker_of self.now) key.now hat.now))) }
+        ensures { IfOk result (λ v. v.items ≡ map (offers_to (asker_of self.now) key.now) (values_of hats.now)) }
     {
-        let offers = self.passing(alloc, self.offers_in(key, hat)?)?;
-        take_final_route(target, route, offers, is_any)
+        let mut offered = Vec::new(alloc);
+        for hat in hats.values() {
+            offered.push(self.offers_in(key, hat)?)?;
+        }
+        Ok(offered)
     }
 
-    // Region by region, in the order of their places.
+    // A region's part joins what earlier regions gave.
+    fn add_part(
+        &self,
+        target: QueryTarget,
+        route: &mut RouteBuilder<QueryTargetQabl>,
+        offers: OfferList,
+    ) -> Result<(), OutOfMemory>
+        ensures { OnOk result (route.new ≡ with_offers route.old (chosen target (filter (passes (asker_of self.now)) offers))) }
+    {
+        let test = |offer: &QueryTargetQabl| -> bool
+            ensures { result ≡ passes (asker_of self.entry.now) offer.now }
+        { self.passes(offer) };
+        take_final_route(target, route, offers, test)
+    }
+
+    // What the target picks region by region, in the order of their places.
     #[tactic(auto, using(crate::proofs::Selected::one_more))]
     fn route_by_region(
         &self,
         alloc: Global,
-        hats: &RegionMap<Hat>,
-        key: &str,
+        offered: Vec<OfferList>,
         target: QueryTarget,
     ) -> Result<RouteBuilder<QueryTargetQabl>, OutOfMemory>
-        requires { IsTrue (key_of key.now) }
-        ensures { IfOk result (λ r. r ≡ with_offers [] (flat_map (chosen target) (parts_for (asker_of self.now) key.now (values_of hats.now)))) }
+        ensures { IfOk result (λ r. r ≡ with_offers [] (flat_map (chosen target) (map (filter (passes (asker_of self.now))) offered.items))) }
     {
         let mut route = RouteBuilder::new(alloc);
-        for hat in hats.values() {
-            self.add_part(alloc, key, target, &mut route, hat)?;
+        for offers in offered {
+            self.add_part(target, &mut route, offers)?;
         }
         Ok(route)
     }
 
-    // What all regions offer to the asker, one region after the other.
-    fn offers_in_all(
-        &self,
-        alloc: Global,
-        hats: &RegionMap<Hat>,
-        key: &str,
-    ) -> Result<OfferList, OutOfMemory>
-        requires { IsTrue (key_of key.now) }
-        ensures { IfOk result (λ o. o ≡ flat_map (offers_to (asker_of self.now) key.now) (values_of hats.now)) }
-    {
-        let mut all = Vec::new(alloc);
-        for hat in hats.values() {
-            let mut offers = self.offers_in(key, hat)?.into_vec();
-            all.append(&mut offers)?;
-        }
-        Ok(Items::from_vec(all))
-    }
-
-    // The best of the offers of all regions together that pass.
-    #[tactic(auto, using(crate::proofs::Selected::passing_joined, crate::proofs::Selected::filter_all))]
+    // The best of the offers of all regions together that are for the asker's request.
+    #[tactic(auto, using(zq_route::proofs::Nearest::filter_joined))]
     fn route_overall(
         &self,
         alloc: Global,
-        hats: &RegionMap<Hat>,
-        key: &str,
+        offered: Vec<OfferList>,
     ) -> Result<RouteBuilder<QueryTargetQabl>, OutOfMemory>
-        requires { IsTrue (key_of key.now) }
-        ensures { IfOk result (λ r. r ≡ with_offers [] (best_overall (joined (parts_for (asker_of self.now) key.now (values_of hats.now))))) }
+        ensures { IfOk result (λ r. r ≡ with_offers [] (best_overall (joined (map (filter (passes (asker_of self.now))) offered.items)))) }
     {
-        let offers = self.passing(alloc, self.offers_in_all(alloc, hats, key)?)?;
+        let offers = all_of(alloc, offered)?;
         let mut route = RouteBuilder::new(alloc);
-        take_best_overall(alloc, &mut route, offers, is_any)?;
+        let test = |offer: &QueryTargetQabl| -> bool
+            ensures { result ≡ passes (asker_of self.entry.now) offer.now }
+        { self.passes(offer) };
+        take_best_overall(alloc, &mut route, offers, test)?;
         Ok(route)
     }
 
-    // What the target picks under a choice.
+    // What the target picks under a choice of what the regions offer.
     fn route(
         &self,
         alloc: Global,
-        hats: &RegionMap<Hat>,
-        key: &str,
+        offered: Vec<OfferList>,
         target: QueryTarget,
         best: Best,
     ) -> Result<RouteBuilder<QueryTargetQabl>, OutOfMemory>
-        requires { IsTrue (key_of key.now) }
-        ensures { IfOk result (λ r. r ≡ with_offers [] (picked best target (parts_for (asker_of self.now) key.now (values_of hats.now)))) }
+        ensures { IfOk result (λ r. r ≡ with_offers [] (picked best target (map (filter (passes (asker_of self.now))) offered.items))) }
     {
         match best {
-            Best::ByRegion => self.route_by_region(alloc, hats, key, target),
+            Best::ByRegion => self.route_by_region(alloc, offered, target),
             Best::Overall => match target {
-                QueryTarget::BestMatching => self.route_overall(alloc, hats, key),
-                QueryTarget::All => self.route_by_region(alloc, hats, key, target),
-                QueryTarget::AllComplete => self.route_by_region(alloc, hats, key, target),
+                QueryTarget::BestMatching => self.route_overall(alloc, offered),
+                QueryTarget::All => self.route_by_region(alloc, offered, target),
+                QueryTarget::AllComplete => self.route_by_region(alloc, offered, target),
             },
         }
     }
 
-    /// The offers that the asker's request on a key is handed to under a choice, of each face one.
-    #[tactic(auto, using(zq_machine::proofs::Routes::route_distinct))]
+    /// The offers that the asker's request on a key is handed to under a choice, of each face one. What the
+    /// regions offer is gathered once.
+    #[tactic(auto, using(zq_machine::proofs::Routes::route_distinct, crate::proofs::Selected::parts_of, crate::proofs::Selected::takes_nearest))]
     pub fn select(
         &self,
         alloc: Global,
@@ -234,13 +227,9 @@ impl<'a> Asker<'a> {
         requires { IsTrue (key_of key.now) }
         ensures offers { IfOk result (λ v. v.items ≡ values_of (with_offers [] (picked best target (parts_for (asker_of self.now) key.now (values_of hats.now))))) }
         ensures distinct { IfOk result (λ v. are_distinct (face_numbers (map target_of v.items)) ≡ true) }
+        ensures nearest { IfOk result (λ v. TakesNearest best target (joined (parts_for (asker_of self.now) key.now (values_of hats.now))) v.items) }
     {
-        Ok(self.route(alloc, hats, key, target, best)?.build())
+        let offered = self.offers_by_region(alloc, hats, key)?;
+        Ok(self.route(alloc, offered, target, best)?.build())
     }
-}
-
-fn is_any(_offer: &QueryTargetQabl) -> bool
-    ensures { result ≡ true }
-{
-    true
 }

@@ -14,7 +14,7 @@ use Rattle.zq_message.specs.declared.message.FaceId.{FaceId}
 use Rattle.zq_names.specs.Texts.{nonwild}
 use Rattle.zq_tables.specs.FaceTexts.{declared_key}
 use Rattle.zq_tables.specs.declared.decl.DeclKey.{DeclKey}
-use Rattle.zq_tables.specs.Naming.{FaceKeys, NamingState, change_naming, face_naming, naming_at, no_keys, put_naming, with_told_number, without_interest, without_queryable}
+use Rattle.zq_tables.specs.Naming.{FaceKeys, NamingState, change_naming, closed_naming, face_naming, naming_at, no_keys, put_naming, with_told_number, without_interest, without_queryable}
 use Rattle.zq_interests.specs.declared.types.InterestEntry.{InterestEntry}
 use Rattle.zq_interests.specs.Interests.{closed_face, interests_of, wants_keyed}
 use Rattle.zq_machine.specs.Messages.{Telling, TellingBody, all_told, key_ended, key_told}
@@ -113,15 +113,15 @@ module _ (k q : ℕ) (other : is_at (nat_cmp k) q ≡ false) where
 -- what stands for keys at another face
 module _ (k q : ℕ) (other : is_at (nat_cmp k) q ≡ false) (s : NamingState) where
   -- a face's numbers change as they do once another face has gone
-  left_later : (f : FaceKeys → FaceKeys) → change_naming q f (remove_entry (is_at (nat_cmp k)) s) ≡ remove_entry (is_at (nat_cmp k)) (change_naming q f s)
-  left_later f = ap (put_naming q f (remove_entry (is_at (nat_cmp k)) s)) (found_beside k q other s) ∙ by (naming_at q s)
+  left_later : (f : FaceKeys → FaceKeys) → change_naming q f (closed_naming k s) ≡ closed_naming k (change_naming q f s)
+  left_later f = ap (put_naming q f (closed_naming k s)) (found_beside k q other s.faces) ∙ by (naming_at q s)
     where
-      by : (o : Option FaceKeys) → put_naming q f (remove_entry (is_at (nat_cmp k)) s) o ≡ remove_entry (is_at (nat_cmp k)) (put_naming q f s o)
+      by : (o : Option FaceKeys) → put_naming q f (closed_naming k s) o ≡ closed_naming k (put_naming q f s o)
       by None = refl
-      by (Some n) = written_beside k q other s (f n)
+      by (Some n) = ap (λ (faces : List (ℕ × FaceKeys)). record s { faces = faces }) (written_beside k q other s.faces (f n))
 
   other_kept : (g : FaceKeys → FaceKeys) → naming_at q (change_naming k g s) ≡ naming_at q s
-  other_kept g = ap (naming_at q) (naming_changed k g s) ∙ found_other k g s q other
+  other_kept g = ap (naming_at q) (naming_changed k g s) ∙ found_other k g s.faces q other
 
 other_way : (k q : ℕ) → is_at (nat_cmp k) q ≡ false → is_at (nat_cmp q) k ≡ false
 other_way k q other = either_way nat_cmp_total exact_unsigned q k ∙ other
@@ -137,14 +137,14 @@ changes_beside k q other g f s =
     by None None = refl
     by None (Some n) = refl
     by (Some m) None = refl
-    by (Some m) (Some n) = sets_beside k q other s (g m) (f n)
+    by (Some m) (Some n) = ap (λ (faces : List (ℕ × FaceKeys)). record s { faces = faces }) (sets_beside k q other s.faces (g m) (f n))
 
 -- ---- a face goes: the others are told the same
-pub left_beside : (c d : Core) (face to : ℕ) → is_at (nat_cmp face) to ≡ false → d.faces ≡ remove_entry (is_at (nat_cmp face)) c.faces → d.interests ≡ closed_face face c.interests → IsBeside c d (remove_entry (is_at (nat_cmp face))) to
+pub left_beside : (c d : Core) (face to : ℕ) → is_at (nat_cmp face) to ≡ false → d.faces ≡ remove_entry (is_at (nat_cmp face)) c.faces → d.interests ≡ closed_face face c.interests → IsBeside c d (closed_naming face) to
 left_beside c d face to other faces asked = record {
   face = ap (at to) faces ∙ found_beside face to other c.faces;
   asks = ap (interests_of to) asked ∙ ap (λ o. option_map_or (λ (es : List (ℕ × InterestEntry)). es) o []) (found_beside face to other c.interests);
-  numbers = λ names. ap (λ (o : Option FaceKeys). (unwrap_or o no_keys).numbers) (found_beside face to other names);
+  numbers = λ names. ap (λ (o : Option FaceKeys). (unwrap_or o no_keys).numbers) (found_beside face to other names.faces);
   later = λ text n names. left_later face to other names (with_told_number text n);
 }
 
@@ -158,7 +158,7 @@ changed_beside c d face g keeps swaps to faces asked = by (is_at (nat_cmp face) 
       where
         at_there : (o : Option FaceKeys) → naming_at face names ≡ o → face_naming face (put_naming face g names o) ≡ (unwrap_or o no_keys).numbers
         at_there None e = ap (λ (p : Option FaceKeys). (unwrap_or p no_keys).numbers) e
-        at_there (Some n) e = ap (λ (p : Option FaceKeys). (unwrap_or p no_keys).numbers) (lookup_set (is_at (nat_cmp face)) names n (g n) e) ∙ keeps n
+        at_there (Some n) e = ap (λ (p : Option FaceKeys). (unwrap_or p no_keys).numbers) (lookup_set (is_at (nat_cmp face)) names.faces n (g n) e) ∙ keeps n
 
     by : (b : Bool) → is_at (nat_cmp face) to ≡ b → IsBeside c d (change_naming face g) to
     by true here = subst (IsBeside c d (change_naming face g)) (one_number face to here) (record {

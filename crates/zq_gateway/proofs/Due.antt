@@ -3,7 +3,6 @@ use Rattle.std.proofs.Common.{◌≡◌, ◌∙◌, refl, sym, ap, subst, ℕ, B
 use Rattle.std.specs.BTreeMap.{is_at}
 use Rattle.std.specs.BTreeSet.{insert_key}
 use Rattle.std.specs.List.{All, AllByRecursion}
-use Rattle.std.specs.Map.{remove_entry}
 use Rattle.std.specs.Option.{is_some, option_and_then, option_map, option_map_or, option_to_list}
 use Rattle.std.specs.Ordering.{nat_cmp}
 use Rattle.std.proofs.lemmas.Bool.{false≢true}
@@ -23,7 +22,7 @@ use Rattle.zq_strategy.specs.Kept.{clashes_at, declaration_at, keys_of_face, reg
 use Rattle.zq_strategy.specs.State.{HatState}
 use Rattle.zq_tables.specs.declared.resolved.Resolved.{Resolved}
 use Rattle.zq_tables.specs.declared.resolved.Resolved.TheVariants as said
-use Rattle.zq_tables.specs.Naming.{NamingState, change_naming, naming_at, without_queryable}
+use Rattle.zq_tables.specs.Naming.{NamingState, change_naming, closed_naming, naming_at, without_queryable}
 use Rattle.zq_index.specs.Texts.{text_cmp}
 use Rattle.zq_interests.specs.Interests.{Interests}
 use Rattle.zq_told.specs.declared.types.FaceUpdate.{FaceUpdate}
@@ -139,7 +138,7 @@ module _ (s : State) (i : IsReached s) (t : TextCall) (plain : is_plain t ≡ tr
 -- ---- a closing tells before the face goes
 module _ (s : State) (i : IsReached s) (face : FaceId) (r : Region) (home : face_region face.0 s.core ≡ Some r) (fits : refusal_of s.core (closing face) ≡ None) where
   abbrev gone : NamingState → NamingState
-  gone = remove_entry (is_at (nat_cmp face.0))
+  gone = closed_naming face.0
 
   spared : (to : ℕ) → is_some (naming_at to (gone s.names)) ≡ true → is_at (nat_cmp face.0) to ≡ false
   spared to heard = by (is_at (nat_cmp face.0) to) refl
@@ -147,7 +146,7 @@ module _ (s : State) (i : IsReached s) (face : FaceId) (r : Region) (home : face
       by : (b : Bool) → is_at (nat_cmp face.0) to ≡ b → is_at (nat_cmp face.0) to ≡ false
       by false e = e
       by true e =
-          let none = found_after_removal nat_cmp_total exact_unsigned face.0 to s.names (reached_in_order s i).tied.names_sorted ∙ ap (λ b. cond b None (naming_at to s.names)) e in
+          let none = found_after_removal nat_cmp_total exact_unsigned face.0 to s.names.faces (reached_in_order s i).tied.names_sorted ∙ ap (λ b. cond b None (naming_at to s.names)) e in
           absurd (false≢true (sym (ap is_some none) ∙ heard))
 
   tells_others : AllByRecursion (λ (t : Telling). is_at (nat_cmp face.0) t.to.0 ≡ false) (told_of s.core (closing face))

@@ -54,7 +54,7 @@ module _ (s : State) (i : IsReached s) where
   quiet_order : InOrder i.config quiet
   quiet_order =
       let o = reached_in_order s i in
-      record { sound = o.sound; tied = o.tied; hats = o.hats; numbered = o.numbered; aims = o.aims; worded = o.worded; asked = o.asked; foreign = o.foreign; gated = o.gated; spaces = o.spaces }
+      record { sound = o.sound; tied = o.tied; routed = o.routed; hats = o.hats; numbered = o.numbered; aims = o.aims; worded = o.worded; asked = o.asked; foreign = o.foreign; gated = o.gated; spaces = o.spaces }
 
   module _ (t : TextCall) (fits : refusal_of quiet.core t ≡ None) (keys : List (List ℕ)) (touches : (face : ℕ) → heard_touched quiet.core t face ≡ keys)
       (same_hats : (accepted quiet.core t).hats ≡ (accepted s.core t).hats) (same_faces : (accepted quiet.core t).faces ≡ (accepted s.core t).faces)

@@ -221,10 +221,6 @@ module _ (s : State) (face : FaceId) (sd : Resolved) (node : ℕ) where
   entering_quiet None = refl
   entering_quiet (Some i) = refl
 
-  pub entering_names : (info : Option QueryableInfoType) → renamed s (entering face sd info node) ≡ s.names
-  entering_names None = refl
-  entering_names (Some i) = refl
-
   pub entering_gates : (info : Option QueryableInfoType) → regated s (entering face sd info node) ≡ s.gates
   entering_gates None = refl
   entering_gates (Some i) = refl
@@ -312,17 +308,14 @@ module _ (s : State) (reached : IsReached s) (face : FaceId) (sd : Resolved) (in
 -- what the body is answered and leaves, by what its tellings are told
 module _ (s : State) (reached : IsReached s) (face : FaceId) (sd : Resolved) (info : Option QueryableInfoType) (node : ℕ) (fits : refusal_of s.core (entering face sd info node) ≡ None)
     (ts : List TreeTelling) (are : ts ≡ due s.core (entering face sd info node)) (l : List Handed) (new : NamingState)
-    (told : behind [] (tell (accepted s.core (entering face sd info node)) (map from_hat (in_order ts)) s.names) ≡ record { handed = l; names = new }) where
-  its_told : behind [] (tell (accepted s.core (entering face sd info node)) (map from_hat (in_order ts)) (renamed s (entering face sd info node))) ≡ record { handed = l; names = new }
-  its_told = ap (λ n. behind [] (tell (accepted s.core (entering face sd info node)) (map from_hat (in_order ts)) n)) (entering_names s face sd node info) ∙ told
-
+    (told : behind [] (tell (accepted s.core (entering face sd info node)) (map from_hat (in_order ts)) (renamed s (entering face sd info node))) ≡ record { handed = l; names = new }) where
   pub entering_answered : ◌≡◌ {A = Step} (record { outcome = outcome.Done; handed = l }) (plain_answer s (entering face sd info node))
-  entering_answered = ap (λ o. record { outcome = o; handed = l }) (sym (entering_done s face sd node info)) ∙ told_answered s reached (entering face sd info node) (entering_plain face sd info node) fits ts are l new its_told (entering_quiet s face sd node info)
+  entering_answered = ap (λ o. record { outcome = o; handed = l }) (sym (entering_done s face sd node info)) ∙ told_answered s reached (entering face sd info node) (entering_plain face sd info node) fits ts are l new told (entering_quiet s face sd node info)
 
   pub entering_left : (hats : List (ℕ × HatState)) → (accepted s.core (entering face sd info node)).hats ≡ hats
       → plain_settle s (entering face sd info node) ≡ record { core = record s.core { hats = hats; ears = (accepted s.core (entering face sd info node)).ears }; names = new; gates = s.gates }
   entering_left hats changes =
-      told_left s reached (entering face sd info node) (entering_plain face sd info node) fits ts are l new its_told
+      told_left s reached (entering face sd info node) (entering_plain face sd info node) fits ts are l new told
       ∙ ap (λ (g : Gates). record { core = accepted s.core (entering face sd info node); names = new; gates = g }) (entering_gates s face sd node info)
       ∙ ap (λ (x : Core). record { core = x; names = new; gates = s.gates }) (entering_core s face sd node info)
       ∙ ap (λ x. record { core = record s.core { hats = x; ears = (accepted s.core (entering face sd info node)).ears }; names = new; gates = s.gates }) changes

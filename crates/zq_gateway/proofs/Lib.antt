@@ -1,8 +1,12 @@
 pub mod Asking
 pub mod Beside
+pub mod Crossing
+pub mod Deadlines
 pub mod Due
 pub mod Elsewhere
 pub mod Entering
+pub mod EntryKeys
+pub mod Contexts
 pub mod GoneOut
 pub mod Hearing
 pub mod Networked

@@ -9,6 +9,7 @@ use Rattle.zq_message.specs.declared.message.Region.{Region}
 use Rattle.zq_message.specs.Region.{region_index}
 use Rattle.zq_strategy.specs.State.{HatState}
 use Rattle.zq_strategy.specs.Kept.{has_face}
+use Rattle.zq_tables.specs.Naming.{naming_at}
 use Rattle.zq_told.specs.ToldSets.{at_face}
 use Rattle.zq_machine.specs.declared.call.Call.{Call}
 use Rattle.zq_machine.specs.declared.call.Step.{Step}
@@ -72,8 +73,8 @@ pub reached_absent : (s : State) → IsReached s → at s.core.next_face s.core.
 reached_absent s i = next_absent s (reached_in_order s i).sound
 
 -- nothing stands for keys at it
-pub reached_unnamed : (s : State) → IsReached s → at s.core.next_face s.names ≡ None
-reached_unnamed s i = gone (at s.core.next_face s.names) ((reached_in_order s i).tied.named s.core.next_face ∙ ap is_some (reached_absent s i))
+pub reached_unnamed : (s : State) → IsReached s → naming_at s.core.next_face s.names ≡ None
+reached_unnamed s i = gone (naming_at s.core.next_face s.names) ((reached_in_order s i).tied.named s.core.next_face ∙ ap is_some (reached_absent s i))
 
 -- nothing is kept of it
 pub reached_unheard : (s : State) → IsReached s → at_face s.core.next_face s.core.ears ≡ None

@@ -12,8 +12,12 @@ ghost use Rattle.zq_machine.specs.declared.call.Call.{Call};
 ghost use Rattle.zq_machine.specs.Headline.{RunPromise};
 ghost use Rattle.zq_machine.specs.Machine.{after, done, refused_step, step};
 ghost use Rattle.zq_machine.specs.State.{opening_state};
+ghost use Rattle.zq_tables.specs.Naming.{has_context};
+ghost use Rattle.zq_gateway.specs.Contexts.{has_standing};
 ghost use Rattle.zq_gateway.specs.Making.{Performs, MayPerform};
 ghost use Rattle.zq_hat.specs.Sourced.{all_queriers, all_queryables};
+
+mod deadline;
 
 use crate::tables::Tables;
 use std::alloc::Global;
@@ -235,6 +239,17 @@ impl Gateway {
             self.tables.hats(),
             self.tables.interests(),
         )
+    }
+
+    /// Whether the table of texts has a node for the key (upstream's resource with a context): the key, or
+    /// one of which it is a part that ends before a `/`, is what a number, a queryable or an interest of
+    /// an open face stands for, or the key of a router's entry. The empty text is the root's, which has
+    /// none. It takes no memory.
+    pub fn has_context(&self, key: &str) -> bool
+        ensures names { result ≡ has_context key.now self.now.names }
+        ensures standing { result ≡ has_standing key.now self.now }
+    {
+        self.tables.has_context(key)
     }
 
     /// How many entries of the request are pending; 0 where it is not open. It takes no memory.

@@ -1,6 +1,7 @@
 //! The gateway: calls in, steps out. Each call is one event.
 //!
 //! - `tables`: what a gateway keeps, and a call by its kind
+//! - `entries`: the keys of routers' entries are let go with the last entry on them
 //! - `faces`: faces that come and go
 //! - `interests`: what faces ask to hear
 //! - `keys`: numbers that faces declare for keys
@@ -18,6 +19,7 @@
 #![tactic(auto)]
 
 pub mod demux;
+mod entries;
 mod faces;
 pub mod gateway;
 mod interests;

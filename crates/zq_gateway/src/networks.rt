@@ -2,12 +2,14 @@
 ghost use Rattle.std.specs.Prelude.{◌≡◌, true, Some};
 ghost use Rattle.zq_strategy.specs.Entries.{staying, without_routers};
 ghost use Rattle.zq_strategy.specs.Nets.{is_listed};
+ghost use Rattle.zq_strategy.specs.Routers.{losing};
 ghost use Rattle.zq_strategy.specs.State.{HatState};
 ghost use Rattle.zq_machine.specs.State.{has_hat, hat_at};
 ghost use Rattle.zq_machine.specs.TextCalls.{networking, tabling};
 ghost use Rattle.zq_gateway.specs.Gathering.{Gathers};
 ghost use Rattle.zq_gateway.specs.Making.{IsReached, Settles};
 
+use crate::entries::release_each;
 use crate::leaving::done_telling;
 use crate::tables::Tables;
 use zq_dispatcher::changes::{Gathered, dues_on_all};
@@ -18,7 +20,7 @@ use zq_egress::let_told_out;
 use zq_egress::neighbours::{take_back, tell_all};
 use zq_key::items::Items;
 use zq_key::memory::OutOfMemory;
-use zq_key::message::{FaceId, Region};
+use zq_key::message::{FaceId, Region, TextList};
 use zq_machine::call::{Refusal, Step};
 use zq_strategy::nets::IndexedNetwork;
 use zq_strategy::types::{Change, Network, NodeIds, ZidList};
@@ -66,23 +68,27 @@ impl Tables {
             keys.as_slice(),
         )?;
         match next.change {
-            Change::Networked(net) => self.put_network(region, net, gone, Gathered { told, dues }),
+            Change::Networked(net) => {
+                self.put_network(region, net, gone, keys, Gathered { told, dues })
+            }
             _ => unreachable!(),
         }
     }
 
     // A network tells what it changes, and is put in place; the entries go of the routers that it does
-    // not list.
+    // not list, and their keys are let go on which no entry is left.
     fn put_network(
         &mut self,
         region: Region,
         net: IndexedNetwork,
         gone: ZidList,
+        keys: TextList,
         found: Gathered,
     ) -> Result<Step, OutOfMemory>
         requires reached { IsReached self.old }
         requires there { has_hat region self.old.core ≡ true }
         requires gone { (h : HatState) → hat_at region self.old.core.hats ≡ Some h → without_routers gone h.entries ≡ staying (is_listed net) h.entries }
+        requires keys { (h : HatState) → hat_at region self.old.core.hats ≡ Some h → keys ≡ losing net h }
         requires found { Gathers self.old.core (networking region net) self.old.core.ears found.dues found.told }
         ensures { Settles self.old self.new (networking region net) result }
     {
@@ -105,6 +111,7 @@ impl Tables {
         match let_told_out(&mut self.gates, &all.handed) {
             Ok(exits) => {
                 hats::put_network(&mut self.hats, region, net, gone.as_slice());
+                release_each(&mut self.names, &self.hats, region, keys.as_slice());
                 Ok(done_telling(&mut self.ears, &mut self.gates, all, exits))
             }
             Err(_) => {

@@ -11,7 +11,8 @@ use crate::leaving::done_telling;
 use crate::tables::Tables;
 use zq_dispatcher::changes::{Gathered, gather};
 use zq_dispatcher::hats;
-use zq_egress::neighbours::{hold_and_tell, take_back, take_back_held, tell_all};
+use zq_egress::holding::{Hold, hold_and_tell, take_back_held};
+use zq_egress::neighbours::{take_back, tell_all};
 use zq_egress::read::{key_said, marks_key};
 use zq_egress::{register_told, withdraw_told};
 use zq_key::Key;
@@ -79,16 +80,14 @@ impl Tables {
         ensures { Settles self.old self.new (declaring face id (Resolved.Full key.now) info node) result }
     {
         let Gathered { told, dues } = found;
-        let fresh = !self.names.holds_queryable(face, id);
+        let by = Hold::Queryable { face, id, key };
         let all = match hold_and_tell(
             self.alloc,
             &self.faces,
             &self.interests,
             &mut self.names,
             &mut self.ears,
-            face,
-            id,
-            key,
+            &by,
             dues.as_slice(),
             told,
         ) {
@@ -99,7 +98,7 @@ impl Tables {
         match register_told(
             &mut self.gates,
             &mut self.hats,
-            &all.handed,
+            &all.told.handed,
             region,
             face,
             id,
@@ -107,9 +106,9 @@ impl Tables {
             node,
             info,
         ) {
-            Ok(exits) => Ok(done_telling(&mut self.ears, &mut self.gates, all, exits)),
+            Ok(exits) => Ok(done_telling(&mut self.ears, &mut self.gates, all.told, exits)),
             Err(_) => {
-                take_back_held(&mut self.names, &mut self.ears, &all, face, id, fresh);
+                take_back_held(&mut self.names, &mut self.ears, &all, &by);
                 Err(OutOfMemory)
             }
         }

@@ -9,17 +9,17 @@ ghost use Rattle.zq_gateway.specs.Gathering.{Gathers, OnlyIdsLack};
 ghost use Rattle.zq_gateway.specs.Making.{IsReached, Settles};
 ghost use Rattle.zq_gateway.specs.Routing.{entering};
 
+use crate::entries::release_gone;
 use crate::leaving::done_telling;
 use crate::tables::Tables;
 use zq_dispatcher::changes::dues_on;
 use zq_dispatcher::hats;
 use zq_dispatcher::routers::{entry_change, entry_tellings, lacks_entry, router_of};
 use zq_dispatcher::types::DuesList;
-use zq_egress::neighbours::{take_back, tell_all};
+use zq_egress::holding::{Hold, hold_and_tell, take_back_held};
 use zq_egress::put_entry_told;
 use zq_egress::read::key_said;
 use zq_key::Key;
-use zq_key::items::Items;
 use zq_key::memory::OutOfMemory;
 use zq_key::message::{FaceId, NodeId, QueryableInfoType, Region, Zid};
 use zq_machine::call::{Refusal, Step};
@@ -27,13 +27,19 @@ use zq_strategy::types::TellingList;
 use zq_tables::resolved::Resolved;
 use zq_told::types::TellRefusal;
 
-// A change of a router's entry on a key, in a region, and what it tells: along trees, and of what
-// will be due to faces.
+// What a router's entry on a key of its region is from a call on; none where it goes.
 #[derive(Drop)]
-struct EntryFound {
+struct RouterEntry {
     region: Region,
     router: Zid,
     key: Key,
+    info: Option<QueryableInfoType>,
+}
+
+// A change of an entry, and what it tells: along trees, and of what will be due to faces.
+#[derive(Drop)]
+struct EntryFound {
+    entry: RouterEntry,
     told: TellingList,
     dues: DuesList,
 }
@@ -65,8 +71,9 @@ impl Tables {
         ensures refused { IfOk result (λ r. IfErr r (λ x. refusal_of self.now.core (entering face said.now info node) ≡ Some x)) }
         ensures ids { IfOk result (λ r. IfOk r (λ f. OnlyIdsLack self.now.core (entering face said.now info node))) }
         ensures found { IfOk result (λ r. IfOk r (λ f. Gathers self.now.core (entering face said.now info node) self.now.core.ears f.dues f.told)) }
-        ensures hats { IfOk result (λ r. IfOk r (λ f. (accepted self.now.core (entering face said.now info node)).hats ≡ change_hat f.region (entered f.router f.key info) self.now.core.hats)) }
-        ensures there { IfOk result (λ r. IfOk r (λ f. is_some (hat_at f.region self.now.core.hats) ≡ true)) }
+        ensures hats { IfOk result (λ r. IfOk r (λ f. (accepted self.now.core (entering face said.now info node)).hats ≡ change_hat f.entry.region (entered f.entry.router f.entry.key info) self.now.core.hats)) }
+        ensures there { IfOk result (λ r. IfOk r (λ f. is_some (hat_at f.entry.region self.now.core.hats) ≡ true)) }
+        ensures info { IfOk result (λ r. IfOk r (λ f. f.entry.info ≡ info)) }
     {
         let Some(region) = self.region_of(face) else {
             return Ok(Err(Refusal::UnknownFace));
@@ -92,13 +99,13 @@ impl Tables {
             entry_change(router, info),
             key.as_str(),
         )?;
-        Ok(Ok(EntryFound {
+        let entry = RouterEntry {
             region,
             router,
             key,
-            told,
-            dues,
-        }))
+            info,
+        };
+        Ok(Ok(EntryFound { entry, told, dues }))
     }
 
     // A router has this entry on a key from now on, or has none.
@@ -113,26 +120,43 @@ impl Tables {
         requires routing { by_router face self.old.core ≡ true }
         ensures { Settles self.old self.new (entering face said.now info node) result }
     {
-        let found = match self.entry_found(face, said, info, node)? {
-            Ok(found) => found,
-            Err(refusal) => return Ok(self.refused(refusal)),
+        match self.entry_found(face, said, info, node)? {
+            Ok(found) => self.put_entry(face, said, node, found),
+            Err(refusal) => Ok(self.refused(refusal)),
+        }
+    }
+
+    // A change of an entry that nothing refuses but ids that lack is told, and is made: a key is held
+    // with the first entry of the region on it, and let go with the last.
+    fn put_entry(
+        &mut self,
+        face: FaceId,
+        said: &Resolved,
+        node: NodeId,
+        found: EntryFound,
+    ) -> Result<Step, OutOfMemory>
+        requires reached { IsReached self.old }
+        requires ids { OnlyIdsLack self.old.core (entering face said.now found.entry.info node) }
+        requires found { Gathers self.old.core (entering face said.now found.entry.info node) self.old.core.ears found.dues found.told }
+        requires hats { (accepted self.old.core (entering face said.now found.entry.info node)).hats ≡ change_hat found.entry.region (entered found.entry.router found.entry.key found.entry.info) self.old.core.hats }
+        requires there { is_some (hat_at found.entry.region self.old.core.hats) ≡ true }
+        ensures { Settles self.old self.new (entering face said.now found.entry.info node) result }
+    {
+        let EntryFound { entry, told, dues } = found;
+        let by = Hold::Entry {
+            region: entry.region,
+            key: &entry.key,
+            info: entry.info,
         };
-        let EntryFound {
-            region,
-            router,
-            key,
-            told,
-            dues,
-        } = found;
-        let all = match tell_all(
+        let all = match hold_and_tell(
             self.alloc,
             &self.faces,
             &self.interests,
             &mut self.names,
             &mut self.ears,
+            &by,
             dues.as_slice(),
             told,
-            Items::new(self.alloc),
         ) {
             Ok(all) => all,
             Err(TellRefusal::NoFreeId) => return Ok(self.refused(Refusal::NoFreeId)),
@@ -141,15 +165,23 @@ impl Tables {
         match put_entry_told(
             &mut self.gates,
             &mut self.hats,
-            &all.handed,
-            region,
-            router,
-            &key,
-            info,
+            &all.told.handed,
+            entry.region,
+            entry.router,
+            &entry.key,
+            entry.info,
         ) {
-            Ok(exits) => Ok(done_telling(&mut self.ears, &mut self.gates, all, exits)),
+            Ok(exits) => {
+                release_gone(
+                    &mut self.names,
+                    &self.hats,
+                    entry.region,
+                    entry.key.as_str(),
+                );
+                Ok(done_telling(&mut self.ears, &mut self.gates, all.told, exits))
+            }
             Err(_) => {
-                take_back(&mut self.names, &mut self.ears, &all, 0);
+                take_back_held(&mut self.names, &mut self.ears, &all, &by);
                 Err(OutOfMemory)
             }
         }

@@ -8,6 +8,8 @@ ghost use Rattle.zq_machine.specs.Calls.{declared_call};
 ghost use Rattle.zq_machine.specs.Machine.{after, done, refused_step, step};
 ghost use Rattle.zq_machine.specs.State.{at, face_region, is_open, opening_state};
 ghost use Rattle.zq_machine.specs.TextCalls.{listing};
+ghost use Rattle.zq_tables.specs.Naming.{has_context};
+ghost use Rattle.zq_gateway.specs.Contexts.{has_standing};
 ghost use Rattle.zq_gateway.specs.Making.{IsReached, Performs, MayPerform, Settles};
 ghost use Rattle.zq_dispatcher.specs.Seats.{seats};
 
@@ -261,6 +263,15 @@ impl Tables {
             Ok(None) => Ok(None),
             Err(_) => Err(Refusal::NotInFlight),
         }
+    }
+
+    /// Whether the table of texts has a node for the key. It takes no memory.
+    pub fn has_context(&self, key: &str) -> bool
+        requires { IsReached self.now }
+        ensures names { result ≡ has_context key.now self.now.names }
+        ensures standing { result ≡ has_standing key.now self.now }
+    {
+        self.names.has_context(key)
     }
 
     /// How many entries of the request are pending; 0 where it is not open. It takes no memory.

@@ -164,7 +164,7 @@ module _ (key : List ℕ) where
   abbrev pub AreUsed : Entries → Type 0
   AreUsed es = AllByRecursion (λ e. has_any e.1 ≡ true) es
 
-  network_found : (net : Network) (es : Entries) → AreUsed es → AreOff (keys_by (is_unlisted net) es) → at_text key (staying (is_listed net) es) ≡ at_text key es
+  pub network_found : (net : Network) (es : Entries) → AreUsed es → AreOff (keys_by (is_unlisted net) es) → at_text key (staying (is_listed net) es) ≡ at_text key es
   network_found net [] used o = refl
   network_found net (e ∷ es) used o = by (has_by (is_unlisted net) e) refl (is_at (text_cmp key) e.0) refl o (network_found net es used.1)
     where
@@ -317,7 +317,7 @@ module _ (place : ℕ) (key : List ℕ) where
       ∙ own_seen old
 
 -- the entries of hats that are worded are used
-used_there : (es : Entries) → Each IsKey IsUsed es → AllByRecursion (λ (e : List ℕ × Routed). has_any e.1 ≡ true) es
+pub used_there : (es : Entries) → Each IsKey IsUsed es → AllByRecursion (λ (e : List ℕ × Routed). has_any e.1 ≡ true) es
 used_there [] w = tt
 used_there (e ∷ es) w = (w.0.1, used_there es w.1)
 

@@ -20,8 +20,8 @@ use Rattle.zq_names.proofs.ClosingLemmas.{later_place, root_text}
 use Rattle.zq_names.proofs.KeepingLemmas.{entry_at-place, once_from}
 use Rattle.zq_tables.specs.FaceTexts.{id_texts}
 use Rattle.zq_tables.specs.Naming.{face_texts, all_texts, has_context}
-use Rattle.zq_tables.specs.Holding.{FaceHolds, Faces, IsHeld, hold_of, side_holds, face_holds, holds_by, keys_of_face, texts_by}
-use Rattle.zq_tables.proofs.Holds.{hold_itself}
+use Rattle.zq_tables.specs.Holding.{EntryNodes, FaceHolds, Faces, IsHeld, all_holds, hold_of, side_holds, face_holds, holds_by, keys_by, keys_of_face, node_texts, row_holds, rows_by, rows_hold, texts_by}
+use Rattle.zq_tables.proofs.Holds.{hold_itself, hold_other}
 
 -- ---- parts of texts
 
@@ -101,16 +101,50 @@ face_text names i f some =
       | inr asked ↦ Contains-append_right (theirs ++ ours ++ queryables) interests t (side_text names i f.interests asked)
     ]
 
-held_text : (names : List NameEntry) (i : ℕ) (faces : Faces) → 0 < holds_by i faces → Contains (all_texts (texts_by names faces)) (entry_at names i).text
-held_text names i [] some = absurd (omega (arith, some))
-held_text names i (p ∷ faces) some =
+-- the texts that stand for keys at faces
+abbrev faces_texts : List NameEntry → Faces → List (List ℕ)
+faces_texts names faces = flat_map face_texts (values_of (keys_by names faces))
+
+-- those of the entries of routers
+abbrev rows_texts : List NameEntry → EntryNodes → List (List ℕ)
+rows_texts names rows = flat_map (λ (p : ℕ × List (List ℕ)). p.1) (rows_by names rows)
+
+faces_text : (names : List NameEntry) (i : ℕ) (faces : Faces) → 0 < holds_by i faces → Contains (faces_texts names faces) (entry_at names i).text
+faces_text names i [] some = absurd (omega (arith, some))
+faces_text names i (p ∷ faces) some =
     let t = (entry_at names i).text in
     let here = face_texts (keys_of_face names p.1) in
-    let later = all_texts (texts_by names faces) in
+    let later = faces_texts names faces in
     elim (positive_or (face_holds i p.1) (holds_by i faces) some) [
       | inl held ↦ Contains-append_left here later t (face_text names i p.1 held)
-      | inr rest ↦ Contains-append_right here later t (held_text names i faces rest)
+      | inr rest ↦ Contains-append_right here later t (faces_text names i faces rest)
     ]
+
+row_text : (names : List NameEntry) (i : ℕ) (row : List ℕ) → 0 < row_holds i row → Contains (node_texts names row) (entry_at names i).text
+row_text names i [] some = absurd (omega (arith, some))
+row_text names i (n ∷ row) some = elim (cases_eq n i) [
+  | inl same ↦ (zero, omega arith, ap (λ (k : ℕ). (entry_at names k).text) same)
+  | inr differ ↦
+      let rest = row_text names i row (omega (arith, some, hold_other i n differ)) in
+      (suc rest.0, omega (arith, rest.1), rest.2)
+]
+
+rows_text : (names : List NameEntry) (i : ℕ) (rows : EntryNodes) → 0 < rows_hold i rows → Contains (rows_texts names rows) (entry_at names i).text
+rows_text names i [] some = absurd (omega (arith, some))
+rows_text names i (p ∷ rows) some =
+    let t = (entry_at names i).text in
+    let here = node_texts names p.1 in
+    let later = rows_texts names rows in
+    elim (positive_or (row_holds i p.1) (rows_hold i rows) some) [
+      | inl held ↦ Contains-append_left here later t (row_text names i p.1 held)
+      | inr rest ↦ Contains-append_right here later t (rows_text names i rows rest)
+    ]
+
+held_text : (names : List NameEntry) (i : ℕ) (faces : Faces) (rows : EntryNodes) → 0 < all_holds i faces rows → Contains (all_texts (texts_by names faces rows)) (entry_at names i).text
+held_text names i faces rows some = elim (positive_or (holds_by i faces) (rows_hold i rows) some) [
+  | inl held ↦ Contains-append_left (faces_texts names faces) (rows_texts names rows) (entry_at names i).text (faces_text names i faces held)
+  | inr entered ↦ Contains-append_right (faces_texts names faces) (rows_texts names rows) (entry_at names i).text (rows_text names i rows entered)
+]
 
 text_there : (names : List NameEntry) (i : ℕ) → Contains (ids names) i → Contains (texts names) (entry_at names i).text
 text_there names i live = Contains-map (λ (e : NameEntry). e.text) names (entry_at names i) (entry_there names i live).0
@@ -140,20 +174,42 @@ face_stands names f u live has =
       | inr asked ↦ side_stands names f.interests u (λ i some. live i (omega (arith, some))) asked
     ]
 
-all_stand : (names : List NameEntry) (faces : Faces) (u : List ℕ) → ((i : ℕ) → 0 < holds_by i faces → Contains (ids names) i) → Contains (all_texts (texts_by names faces)) u → Contains (texts names) u
-all_stand names [] u live has = absurd (omega (arith, has.1))
-all_stand names (p ∷ faces) u live has =
-    elim (Contains-append_cases (face_texts (keys_of_face names p.1)) (all_texts (texts_by names faces)) u has) [
+faces_stand : (names : List NameEntry) (faces : Faces) (u : List ℕ) → ((i : ℕ) → 0 < holds_by i faces → Contains (ids names) i) → Contains (faces_texts names faces) u → Contains (texts names) u
+faces_stand names [] u live has = absurd (omega (arith, has.1))
+faces_stand names (p ∷ faces) u live has =
+    elim (Contains-append_cases (face_texts (keys_of_face names p.1)) (faces_texts names faces) u has) [
       | inl here ↦ face_stands names p.1 u (λ i some. live i (omega (arith, some))) here
-      | inr there ↦ all_stand names faces u (λ i some. live i (omega (arith, some))) there
+      | inr there ↦ faces_stand names faces u (λ i some. live i (omega (arith, some))) there
+    ]
+
+row_stands : (names : List NameEntry) (row : List ℕ) (u : List ℕ) → ((i : ℕ) → 0 < row_holds i row → Contains (ids names) i) → Contains (node_texts names row) u → Contains (texts names) u
+row_stands names [] u live has = absurd (omega (arith, has.1))
+row_stands names (n ∷ row) u live (zero, lt, is) =
+    let C : List ℕ → Type 0 = Contains (texts names) in
+    subst C is (text_there names n (live n (omega (arith, hold_itself n))))
+row_stands names (n ∷ row) u live (suc k, lt, is) = row_stands names row u (λ i some. live i (omega (arith, some))) (k, omega (arith, lt), is)
+
+rows_stand : (names : List NameEntry) (rows : EntryNodes) (u : List ℕ) → ((i : ℕ) → 0 < rows_hold i rows → Contains (ids names) i) → Contains (rows_texts names rows) u → Contains (texts names) u
+rows_stand names [] u live has = absurd (omega (arith, has.1))
+rows_stand names (p ∷ rows) u live has =
+    elim (Contains-append_cases (node_texts names p.1) (rows_texts names rows) u has) [
+      | inl here ↦ row_stands names p.1 u (λ i some. live i (omega (arith, some))) here
+      | inr there ↦ rows_stand names rows u (λ i some. live i (omega (arith, some))) there
+    ]
+
+all_stand : (names : List NameEntry) (faces : Faces) (rows : EntryNodes) (u : List ℕ) → ((i : ℕ) → 0 < all_holds i faces rows → Contains (ids names) i) → Contains (all_texts (texts_by names faces rows)) u → Contains (texts names) u
+all_stand names faces rows u live has =
+    elim (Contains-append_cases (faces_texts names faces) (rows_texts names rows) u has) [
+      | inl here ↦ faces_stand names faces u (λ i some. live i (omega (arith, some))) here
+      | inr there ↦ rows_stand names rows u (λ i some. live i (omega (arith, some))) there
     ]
 
 -- ---- each node is stood for, or lies above one that is
 
-module _ (names : List NameEntry) (faces : Faces) (held : IsHeld names faces) (table : IsNames (ids names) (texts names)) (distinct : AllPairs ◌≢◌ (ids names)) where
+module _ (names : List NameEntry) (faces : Faces) (rows : EntryNodes) (held : IsHeld names faces rows) (table : IsNames (ids names) (texts names)) (distinct : AllPairs ◌≢◌ (ids names)) where
   -- the parts of the texts that are stood for
   abbrev parts : List (List ℕ)
-  parts = flat_map heads (all_texts (texts_by names faces))
+  parts = flat_map heads (all_texts (texts_by names faces rows))
 
   abbrev IsApart : ℕ → Type 0
   IsApart k = Contains parts (text_at names k) → ⊥
@@ -164,13 +220,13 @@ module _ (names : List NameEntry) (faces : Faces) (held : IsHeld names faces) (t
       let own : entry_at names e.id ≡ e = entry_at-place names k (entry_of 0 None) lt (once_from (ids names) (λ i j less in_j. distinct i j 0 less in_j)) in
       let live : Contains (ids names) e.id = Contains-map (λ (x : NameEntry). x.id) names e (k, lt, get_or_default names k e (entry_of 0 None) lt) in
       let text : (entry_at names e.id).text ≡ text_at names k = ap (λ (x : NameEntry). x.text) own ∙ sym (get_or-map (λ (x : NameEntry). x.text) names k (entry_of 0 None) [] lt) in
-      sym (ap (λ (x : NameEntry). x.holds) own) ∙ held.counted e.id live ∙ by e.id text (holds_by e.id faces) refl
+      sym (ap (λ (x : NameEntry). x.holds) own) ∙ held.counted e.id live ∙ by e.id text (all_holds e.id faces rows) refl
     where
-      by : (i : ℕ) → (entry_at names i).text ≡ text_at names k → (n : ℕ) → holds_by i faces ≡ n → holds_by i faces ≡ 0
+      by : (i : ℕ) → (entry_at names i).text ≡ text_at names k → (n : ℕ) → all_holds i faces rows ≡ n → all_holds i faces rows ≡ 0
       by i text zero is = is
       by i text (suc n) is =
-          let C : List ℕ → Type 0 = Contains (all_texts (texts_by names faces)) in
-          absurd (apart (part_itself (text_at names k) (all_texts (texts_by names faces)) (subst C text (held_text names i faces (omega (arith, is))))))
+          let C : List ℕ → Type 0 = Contains (all_texts (texts_by names faces rows)) in
+          absurd (apart (part_itself (text_at names k) (all_texts (texts_by names faces rows)) (subst C text (held_text names i faces rows (omega (arith, is))))))
 
   -- no more than n places come behind k
   none_apart : (n k : ℕ) → length names ≤ k + n → 0 < k → k < length names → IsApart k → ⊥
@@ -189,15 +245,15 @@ module _ (names : List NameEntry) (faces : Faces) (held : IsHeld names faces) (t
           let below_j : IsBelow t (text_at names j) = subst B (sym there) below in
           let count = length-map names (λ (e : NameEntry). e.text) in
           let later = later_place (texts names) k j table.rising (omega (arith, count, lt)) in_j below_j in
-          again j (omega (arith, few, later)) (omega (arith, past, later)) (omega (arith, count, in_j)) (λ part. apart (part_above t (text_at names j) (all_texts (texts_by names faces)) below_j part))
+          again j (omega (arith, few, later)) (omega (arith, past, later)) (omega (arith, count, in_j)) (λ part. apart (part_above t (text_at names j) (all_texts (texts_by names faces rows)) below_j part))
 
-  pub context_stands : (b : ℕ) (t : List ℕ) → has_context (b ∷ t) (texts_by names faces) ≡ true → Contains (texts names) (b ∷ t)
+  pub context_stands : (b : ℕ) (t : List ℕ) → has_context (b ∷ t) (texts_by names faces rows) ≡ true → Contains (texts names) (b ∷ t)
   context_stands b t is =
-      part_stands (ids names) (texts names) (all_texts (texts_by names faces)) (b ∷ t) table (λ u. all_stand names faces u held.live)
+      part_stands (ids names) (texts names) (all_texts (texts_by names faces rows)) (b ∷ t) table (λ u. all_stand names faces rows u held.live)
       (Contains-from_any (λ x y. (bytes_eq-Decides x y).0) (b ∷ t) parts is)
 
-  pub stands_context : (b : ℕ) (t : List ℕ) → Contains (texts names) (b ∷ t) → has_context (b ∷ t) (texts_by names faces) ≡ true
-  stands_context b t (k, in_k, is) = by (has_context (b ∷ t) (texts_by names faces)) refl
+  pub stands_context : (b : ℕ) (t : List ℕ) → Contains (texts names) (b ∷ t) → has_context (b ∷ t) (texts_by names faces rows) ≡ true
+  stands_context b t (k, in_k, is) = by (has_context (b ∷ t) (texts_by names faces rows)) refl
     where
       here : text_at names k ≡ b ∷ t
       here = get_or_default (texts names) k [] (b ∷ t) in_k ∙ is
@@ -206,7 +262,7 @@ module _ (names : List NameEntry) (faces : Faces) (held : IsHeld names faces) (t
       past zero same = absurd (omega (arith, ap length (sym (root_text (ids names) names table) ∙ ap (text_at names) same ∙ here)))
       past (suc j) same = omega arith
 
-      by : (c : Bool) → has_context (b ∷ t) (texts_by names faces) ≡ c → c ≡ true
+      by : (c : Bool) → has_context (b ∷ t) (texts_by names faces rows) ≡ c → c ≡ true
       by true found = refl
       by false missed =
           let count = length-map names (λ (e : NameEntry). e.text) in
@@ -214,13 +270,13 @@ module _ (names : List NameEntry) (faces : Faces) (held : IsHeld names faces) (t
           (λ part. false≢true (sym missed ∙ list_any-from_Contains nat_list_eq_equiv (b ∷ t) parts (let C : List ℕ → Type 0 = Contains parts in subst C here part))))
 
   -- a node was found for the text, or there is none
-  pub context_is : (t : List ℕ) (o : Option ResourceId) → 0 < length t → IfSome o (λ r. HasText names r t) → IfNone o (Contains (texts names) t → ⊥) → is_some o ≡ has_context t (texts_by names faces)
+  pub context_is : (t : List ℕ) (o : Option ResourceId) → 0 < length t → IfSome o (λ r. HasText names r t) → IfNone o (Contains (texts names) t → ⊥) → is_some o ≡ has_context t (texts_by names faces rows)
   context_is [] o some found absent = absurd (omega (arith, some))
   context_is (b ∷ t) (Some r) some found absent =
       let C : List ℕ → Type 0 = Contains (texts names) in
       sym (stands_context b t (subst C found.text (text_there names r.0 found.live)))
-  context_is (b ∷ t) None some found absent = by (has_context (b ∷ t) (texts_by names faces)) refl
+  context_is (b ∷ t) None some found absent = by (has_context (b ∷ t) (texts_by names faces rows)) refl
     where
-      by : (c : Bool) → has_context (b ∷ t) (texts_by names faces) ≡ c → false ≡ c
+      by : (c : Bool) → has_context (b ∷ t) (texts_by names faces rows) ≡ c → false ≡ c
       by false is = refl
       by true is = absurd (absent (context_stands b t is))

@@ -18,14 +18,14 @@ use Rattle.zq_message.specs.declared.message.Mapping.TheVariants.{Sender, Receiv
 use Rattle.zq_names.specs.Names.{NameEntry, entry_at, texts}
 use Rattle.zq_tables.specs.FaceIds.{of_id, without_id}
 use Rattle.zq_tables.specs.FaceTexts.{id_texts}
-use Rattle.zq_tables.specs.Naming.{FaceKeys, NamingState, Names, no_keys, naming_at, face_keys, put_naming, change_naming}
-use Rattle.zq_tables.specs.Holding.{FaceHolds, Faces, IsFace, IsHeld, Rises, face_holds, held_ids, held_keys, holds_by, ids_at, ids_in, least, limit, node_at, keys_of_face, texts_by, with_keys, without_key}
+use Rattle.zq_tables.specs.Naming.{FaceKeys, IsEntryRow, NamingState, Names, closed_naming, no_keys, naming_at, face_keys, opened_naming, put_naming, change_naming}
+use Rattle.zq_tables.specs.Holding.{EntryNodes, FaceHolds, Faces, IsFace, IsHeld, Rises, face_holds, held_ids, held_keys, holds_by, ids_at, ids_in, least, limit, node_at, keys_by, keys_of_face, texts_by, with_keys, without_key}
 use Rattle.zq_tables.specs.declared.holder.Holder.{Holder}
 use Rattle.zq_tables.specs.declared.holder.Holder.TheVariants.{Number, Queryable, Interest}
 use Rattle.zq_tables.proofs.IdLemmas.{removed_absent}
 use Rattle.zq_tables.proofs.Entries.{weigh-with_id, weigh-removed, removed_set, set_twice, lookup_set, insert_there, shown-with_id, shown-removed}
 use Rattle.zq_tables.proofs.Lean.{root_lean}
-use Rattle.zq_tables.proofs.Faces.{naming_at-texts, keys_there, ids_texts, change_idle, shown_text}
+use Rattle.zq_tables.proofs.Faces.{naming_at-texts, keys_there, ids_texts, change_idle, shown_text, with_faces}
 use Rattle.zq_tables.proofs.Holders.{keys_with, none_keys, same_ids, with_own}
 
 -- ---- before any call
@@ -42,21 +42,23 @@ all_unheld (e ∷ []) i is = by (eqb e.id i)
     by false = refl
 all_unheld (e ∷ d ∷ es) i is = absurd (omega (arith, ap length is))
 
-pub held_none : (ns : List NameEntry) → texts ns ≡ [] ∷ [] → map (λ (e : NameEntry). e.holds) ns ≡ 0 ∷ [] → IsHeld ns []
+pub held_none : (ns : List NameEntry) → texts ns ≡ [] ∷ [] → map (λ (e : NameEntry). e.holds) ns ≡ 0 ∷ [] → IsHeld ns [] []
 held_none ns root is = record {
   live = λ i some. absurd (omega arith);
   counted = λ i has. all_unheld ns i is;
   sides = All-nil IsFace;
+  order = record { regions = omega arith; each = All-nil IsEntryRow };
   lean = root_lean ns root;
 }
 
 -- ---- as many holds, and all faces as they were or without numbers
 
-same_held : (names : List NameEntry) (faces faces' : Faces) → IsHeld names faces → ((i : ℕ) → holds_by i faces' ≡ holds_by i faces) → All IsFace (values_of faces') → IsHeld names faces'
-same_held names faces faces' held same sides = record {
+same_held : (names : List NameEntry) (faces faces' : Faces) (rows : EntryNodes) → IsHeld names faces rows → ((i : ℕ) → holds_by i faces' ≡ holds_by i faces) → All IsFace (values_of faces') → IsHeld names faces' rows
+same_held names faces faces' rows held same sides = record {
   live = λ i some. held.live i (omega (arith, some, same i));
-  counted = λ i has. held.counted i has ∙ sym (same i);
+  counted = λ i has. omega (arith, held.counted i has, same i);
   sides = sides;
+  order = held.order;
   lean = held.lean;
 }
 
@@ -72,7 +74,7 @@ none_held i f bare = rw (bare.theirs, bare.ours, bare.queryables, bare.interests
 
 -- ---- a face comes
 
-module _ (names : List NameEntry) (faces faces' : Faces) (face : ℕ) (f : FaceHolds) (theirs : f.numbers.theirs ≡ []) (ours : f.numbers.ours ≡ []) (queryables : f.queryables ≡ []) (interests : f.interests ≡ []) (put : faces' ≡ insert_entry nat_cmp faces face f) where
+module _ (names : List NameEntry) (faces faces' : Faces) (rows : EntryNodes) (face : ℕ) (f : FaceHolds) (theirs : f.numbers.theirs ≡ []) (ours : f.numbers.ours ≡ []) (queryables : f.queryables ≡ []) (interests : f.interests ≡ []) (put : faces' ≡ insert_entry nat_cmp faces face f) where
   bare : IsBare f
   bare = record { theirs = theirs; ours = ours; queryables = queryables; interests = interests }
 
@@ -85,15 +87,15 @@ module _ (names : List NameEntry) (faces faces' : Faces) (face : ℕ) (f : FaceH
       by Queryable = let R : List (ℕ × ℕ) → Type 0 = Rises 4294967296 0 in subst R (sym queryables) (omega arith)
       by Interest = let R : List (ℕ × ℕ) → Type 0 = Rises 4294967296 0 in subst R (sym interests) (omega arith)
 
-  pub opened : IsHeld names faces → ids_at face faces ≡ None → IsHeld names faces'
-  opened held absent = same_held names faces faces' held
+  pub opened : IsHeld names faces rows → ids_at face faces ≡ None → IsHeld names faces' rows
+  opened held absent = same_held names faces faces' rows held
       (λ i. omega (arith, ap (holds_by i) put, weigh-with_id (face_holds i) faces face f absent, none_held i f bare))
       (let A : Faces → Type 0 = λ (fs : Faces). All IsFace (values_of fs) in subst A (sym put) (All-values-insert_entry nat_cmp face f IsFace faces held.sides is_face))
 
-  pub opened_texts : texts_by names faces' ≡ insert_entry nat_cmp (texts_by names faces) face no_keys
+  pub opened_texts : texts_by names faces' rows ≡ opened_naming face (texts_by names faces rows)
   opened_texts =
       let none : keys_of_face names f ≡ no_keys = rw (theirs, ours, queryables, interests) refl in
-      ap (texts_by names) put ∙ shown-with_id (keys_of_face names) faces face f ∙ ap (insert_entry nat_cmp (texts_by names faces) face) none
+      ap (with_faces (texts_by names faces rows)) (ap (keys_by names) put ∙ shown-with_id (keys_of_face names) faces face f ∙ ap (insert_entry nat_cmp (keys_by names faces) face) none)
 
 -- ---- a face is left without ids of a holder
 
@@ -111,14 +113,14 @@ module _ (face : ℕ) (h : FaceKeys → FaceKeys) where
     where
       by : (o : Option FaceKeys) → naming_at face s ≡ o → h (unwrap_or o no_keys) ≡ unwrap_or o no_keys → put_naming face h s o ≡ s
       by None is same = refl
-      by (Some n) is same = ap (set_value (is_at (nat_cmp face)) s) same ∙ set_value_same (is_at (nat_cmp face)) s n is
+      by (Some n) is same = ap (with_faces s) (ap (set_value (is_at (nat_cmp face)) s.faces) same ∙ set_value_same (is_at (nat_cmp face)) s.faces n is)
 
-  pub changed_removed : (s : NamingState) → remove_entry (is_at (nat_cmp face)) (changed s) ≡ remove_entry (is_at (nat_cmp face)) s
-  changed_removed s = by (naming_at face s)
+  pub changed_closed : (s : NamingState) → closed_naming face (changed s) ≡ closed_naming face s
+  changed_closed s = by (naming_at face s)
     where
-      by : (o : Option FaceKeys) → remove_entry (is_at (nat_cmp face)) (put_naming face h s o) ≡ remove_entry (is_at (nat_cmp face)) s
+      by : (o : Option FaceKeys) → closed_naming face (put_naming face h s o) ≡ closed_naming face s
       by None = refl
-      by (Some n) = removed_set (is_at (nat_cmp face)) s (h n)
+      by (Some n) = ap (with_faces s) (removed_set (is_at (nat_cmp face)) s.faces (h n))
 
 -- one change after another
 pub changed_twice : (face : ℕ) (g h k : FaceKeys → FaceKeys) → ((n : FaceKeys) → h (g n) ≡ k n) → (s : NamingState) → changed face h (changed face g s) ≡ changed face k s
@@ -127,9 +129,8 @@ changed_twice face g h k same s = by (naming_at face s) refl
     by : (o : Option FaceKeys) → naming_at face s ≡ o → changed face h (put_naming face g s o) ≡ put_naming face k s o
     by None is = ap (put_naming face h s) is
     by (Some n) is =
-        ap (put_naming face h (set_value (is_at (nat_cmp face)) s (g n))) (lookup_set (is_at (nat_cmp face)) s n (g n) is)
-        ∙ set_twice (is_at (nat_cmp face)) s (g n) (h (g n))
-        ∙ ap (set_value (is_at (nat_cmp face)) s) (same n)
+        ap (put_naming face h (with_faces s (set_value (is_at (nat_cmp face)) s.faces (g n)))) (lookup_set (is_at (nat_cmp face)) s.faces n (g n) is)
+        ∙ ap (with_faces s) (set_twice (is_at (nat_cmp face)) s.faces (g n) (h (g n)) ∙ ap (set_value (is_at (nat_cmp face)) s.faces) (same n))
 
 -- a change that comes to nothing before the next
 pub changed_more : (face : ℕ) (h : FaceKeys → FaceKeys) (s : NamingState) (g : FaceKeys → FaceKeys) → ((n : FaceKeys) → h (g n) ≡ h n) → changed face h (change_naming face g s) ≡ changed face h s
@@ -142,10 +143,8 @@ changed_back face g h s back = by (naming_at face s) refl back
     by : (o : Option FaceKeys) → naming_at face s ≡ o → h (g (unwrap_or o no_keys)) ≡ unwrap_or o no_keys → changed face h (put_naming face g s o) ≡ s
     by None is same = ap (put_naming face h s) is
     by (Some n) is same =
-        ap (put_naming face h (set_value (is_at (nat_cmp face)) s (g n))) (lookup_set (is_at (nat_cmp face)) s n (g n) is)
-        ∙ set_twice (is_at (nat_cmp face)) s (g n) (h (g n))
-        ∙ ap (set_value (is_at (nat_cmp face)) s) same
-        ∙ set_value_same (is_at (nat_cmp face)) s n is
+        ap (put_naming face h (with_faces s (set_value (is_at (nat_cmp face)) s.faces (g n)))) (lookup_set (is_at (nat_cmp face)) s.faces n (g n) is)
+        ∙ ap (with_faces s) (set_twice (is_at (nat_cmp face)) s.faces (g n) (h (g n)) ∙ ap (set_value (is_at (nat_cmp face)) s.faces) same ∙ set_value_same (is_at (nat_cmp face)) s.faces n is)
 
 abbrev pub emptied : NamingState → ℕ → NamingState
 emptied s face = change_naming face (λ _. no_keys) s
@@ -155,37 +154,37 @@ emptied_face s face = by (naming_at face s) refl
   where
     by : (o : Option FaceKeys) → naming_at face s ≡ o → face_keys face (put_naming face (λ _. no_keys) s o) ≡ no_keys
     by None is = ap (λ (p : Option FaceKeys). unwrap_or p no_keys) is
-    by (Some n) is = ap (λ (p : Option FaceKeys). unwrap_or p no_keys) (lookup_set (is_at (nat_cmp face)) s n no_keys is)
+    by (Some n) is = ap (λ (p : Option FaceKeys). unwrap_or p no_keys) (lookup_set (is_at (nat_cmp face)) s.faces n no_keys is)
 
 -- what an open face is left with is an entry without keys
-pub emptied_put : (s : NamingState) (face : ℕ) → IsStrictlySortedBy nat_cmp (keys_of s) → is_some (naming_at face s) ≡ true → emptied s face ≡ insert_entry nat_cmp s face no_keys
+pub emptied_put : (s : NamingState) (face : ℕ) → IsStrictlySortedBy nat_cmp (keys_of s.faces) → is_some (naming_at face s) ≡ true → emptied s face ≡ opened_naming face s
 emptied_put s face sorted some = by (naming_at face s) refl some
   where
-    by : (o : Option FaceKeys) → naming_at face s ≡ o → is_some o ≡ true → put_naming face (λ _. no_keys) s o ≡ insert_entry nat_cmp s face no_keys
+    by : (o : Option FaceKeys) → naming_at face s ≡ o → is_some o ≡ true → put_naming face (λ _. no_keys) s o ≡ opened_naming face s
     by None is no_face = absurd (false≢true no_face)
-    by (Some n) is yes_face = sym (insert_there s face n no_keys sorted is)
+    by (Some n) is yes_face = ap (with_faces s) (sym (insert_there s.faces face n no_keys sorted is))
 
-pub keys_texts : (names : List NameEntry) (faces : Faces) → keys_of (texts_by names faces) ≡ keys_of faces
+pub keys_texts : (names : List NameEntry) (faces : Faces) → keys_of (keys_by names faces) ≡ keys_of faces
 keys_texts names faces = keys_of-map_values (keys_of_face names) faces
 
 pub some_map : {X Y : Type 0} (f : X → Y) (o : Option X) → is_some (option_map f o) ≡ is_some o
 some_map f None = refl
 some_map f (Some x) = refl
 
-pub open_naming : (names : List NameEntry) (faces : Faces) (face : ℕ) → is_some (naming_at face (texts_by names faces)) ≡ is_some (ids_at face faces)
-open_naming names faces face = ap is_some (naming_at-texts names faces face) ∙ some_map (keys_of_face names) (ids_at face faces)
+pub open_naming : (names : List NameEntry) (faces : Faces) (rows : EntryNodes) (face : ℕ) → is_some (naming_at face (texts_by names faces rows)) ≡ is_some (ids_at face faces)
+open_naming names faces rows face = ap is_some (naming_at-texts names faces rows face) ∙ some_map (keys_of_face names) (ids_at face faces)
 
 -- ---- a face goes
 
-pub closed : (names : List NameEntry) (faces faces' : Faces) (face : ℕ) → IsHeld names faces → face_keys face (texts_by names faces) ≡ no_keys → faces' ≡ remove_entry (is_at (nat_cmp face)) faces → IsHeld names faces'
-closed names faces faces' face held none put =
-    same_held names faces faces' held (λ i. ap (holds_by i) put ∙ by i (ids_at face faces) refl)
+pub closed : (names : List NameEntry) (faces faces' : Faces) (rows : EntryNodes) (face : ℕ) → IsHeld names faces rows → face_keys face (texts_by names faces rows) ≡ no_keys → faces' ≡ remove_entry (is_at (nat_cmp face)) faces → IsHeld names faces' rows
+closed names faces faces' rows face held none put =
+    same_held names faces faces' rows held (λ i. ap (holds_by i) put ∙ by i (ids_at face faces) refl)
     (let A : Faces → Type 0 = λ (fs : Faces). All IsFace (values_of fs) in subst A (sym put) (All-map-remove_entry (is_at (nat_cmp face)) (λ (e : ℕ × FaceHolds). e.1) IsFace faces held.sides))
   where
     by : (i : ℕ) (o : Option FaceHolds) → ids_at face faces ≡ o → holds_by i (remove_entry (is_at (nat_cmp face)) faces) ≡ holds_by i faces
     by i None at = ap (holds_by i) (removed_absent (is_at (nat_cmp face)) faces at)
     by i (Some f) at =
-        let is = sym (keys_there names faces face f at) ∙ none in
+        let is = sym (keys_there names faces rows face f at) ∙ none in
         let bare : IsBare f = record {
           theirs = map_none names f.numbers.theirs (ap (λ (n : FaceKeys). n.numbers.theirs) is);
           ours = map_none names f.numbers.ours (ap (λ (n : FaceKeys). n.numbers.ours) is);
@@ -194,16 +193,16 @@ closed names faces faces' face held none put =
         } in
         omega (arith, weigh-removed (face_holds i) (is_at (nat_cmp face)) faces f at, none_held i f bare)
 
-pub closed_texts : (names : List NameEntry) (faces faces' : Faces) (face : ℕ) → faces' ≡ remove_entry (is_at (nat_cmp face)) faces → texts_by names faces' ≡ remove_entry (is_at (nat_cmp face)) (texts_by names faces)
-closed_texts names faces faces' face put = ap (texts_by names) put ∙ shown-removed (keys_of_face names) (is_at (nat_cmp face)) faces
+pub closed_texts : (names : List NameEntry) (faces faces' : Faces) (rows : EntryNodes) (face : ℕ) → faces' ≡ remove_entry (is_at (nat_cmp face)) faces → texts_by names faces' rows ≡ closed_naming face (texts_by names faces rows)
+closed_texts names faces faces' rows face put = ap (with_faces (texts_by names faces rows)) (ap (keys_by names) put ∙ shown-removed (keys_of_face names) (is_at (nat_cmp face)) faces)
 
 -- ---- the first id
 
 keys_id_texts : (names : List NameEntry) (es : List (ℕ × ℕ)) → keys_of (id_texts names es) ≡ keys_of es
 keys_id_texts names es = keys_of-map_values (λ (k : ℕ). (entry_at names k).text) es
 
-pub first_same : (h : Holder) (names : List NameEntry) (faces : Faces) (face : ℕ) → slice_get (keys_of (ids_in h (ids_at face faces))) 0 ≡ slice_get (keys_of (held_keys h (face_keys face (texts_by names faces)))) 0
-first_same h names faces face = ap (λ (l : List ℕ). slice_get l 0) (sym (keys_id_texts names (ids_in h (ids_at face faces))) ∙ ap keys_of (ids_texts h names faces face))
+pub first_same : (h : Holder) (names : List NameEntry) (faces : Faces) (rows : EntryNodes) (face : ℕ) → slice_get (keys_of (ids_in h (ids_at face faces))) 0 ≡ slice_get (keys_of (held_keys h (face_keys face (texts_by names faces rows)))) 0
+first_same h names faces rows face = ap (λ (l : List ℕ). slice_get l 0) (sym (keys_id_texts names (ids_in h (ids_at face faces))) ∙ ap keys_of (ids_texts h names faces rows face))
 
 -- what holds where a first id is none
 pub none_then : {P : Type 0} (o x : Option ℕ) → o ≡ x → (None ≡ x → P) → IfNone o P
@@ -217,9 +216,9 @@ no_first (e ∷ es) is = absurd (none-some e.0 (sym is))
 idle_less : (names : List NameEntry) (es : List (ℕ × ℕ)) (id : ℕ) → of_id es id ≡ None → without_id (id_texts names es) id ≡ id_texts names es
 idle_less names es id absent = removed_absent (is_at (nat_cmp id)) (id_texts names es) (shown_text names es id None absent)
 
-pub freed_idle : (h : Holder) (names : List NameEntry) (faces : Faces) (face id : ℕ) → node_at h face id faces ≡ None → texts_by names faces ≡ change_naming face (without_key h id) (texts_by names faces)
-freed_idle h names faces face id none =
-    change_idle names faces face (without_key h id) (λ f at.
+pub freed_idle : (h : Holder) (names : List NameEntry) (faces : Faces) (rows : EntryNodes) (face id : ℕ) → node_at h face id faces ≡ None → texts_by names faces rows ≡ change_naming face (without_key h id) (texts_by names faces rows)
+freed_idle h names faces rows face id none =
+    change_idle names faces rows face (without_key h id) (λ f at.
     let absent : of_id (held_ids h f) id ≡ None = ap (λ (o : Option FaceHolds). of_id (ids_in h o) id) (sym at) ∙ none in
     let kept : without_id (held_keys h (keys_of_face names f)) id ≡ held_keys h (keys_of_face names f) =
     ap (λ (l : Names). without_id l id) (sym (same_ids h names f)) ∙ idle_less names (held_ids h f) id absent ∙ same_ids h names f in
@@ -243,7 +242,7 @@ fewer h id s face is = by (naming_at face s) refl
     by (Some n) at =
         let left = without_id (held_keys h n) id in
         let was : held_keys h (face_keys face s) ≡ held_keys h n = ap (λ (p : Option FaceKeys). held_keys h (unwrap_or p no_keys)) at in
-        let now : held_keys h (face_keys face (set_value (is_at (nat_cmp face)) s (without_key h id n))) ≡ left =
-        ap (λ (p : Option FaceKeys). held_keys h (unwrap_or p no_keys)) (lookup_set (is_at (nat_cmp face)) s n (without_key h id n) at) ∙ keys_with h n left in
+        let now : held_keys h (face_keys face (with_faces s (set_value (is_at (nat_cmp face)) s.faces (without_key h id n)))) ≡ left =
+        ap (λ (p : Option FaceKeys). held_keys h (unwrap_or p no_keys)) (lookup_set (is_at (nat_cmp face)) s.faces n (without_key h id n) at) ∙ keys_with h n left in
         let smaller = fewer_left (held_keys h n) id (is ∙ ap (λ (l : Names). slice_get (keys_of l) 0) was) in
         omega (arith, ap length was, ap length now, smaller)

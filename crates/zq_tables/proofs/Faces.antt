@@ -13,58 +13,64 @@ use Rattle.zq_names.specs.Names.{NameEntry, ids, entry_at}
 use Rattle.zq_names.specs.Keeping.{ChangesAt}
 use Rattle.zq_tables.specs.FaceIds.{of_id}
 use Rattle.zq_tables.specs.FaceTexts.{id_texts, texts_of}
-use Rattle.zq_tables.specs.Naming.{FaceKeys, no_keys, no_names, naming_at, face_keys, face_naming, text_at, put_naming, change_naming}
-use Rattle.zq_tables.specs.Holding.{FaceHolds, Faces, IsHeld, hold_of, held_ids, held_keys, ids_at, ids_in, keys_of_face, node_at, texts_by}
+use Rattle.zq_tables.specs.Naming.{FaceKeys, NamingState, no_keys, no_names, naming_at, face_keys, face_naming, text_at, put_naming, change_naming}
+use Rattle.zq_tables.specs.Holding.{EntryNodes, FaceHolds, Faces, IsHeld, hold_of, held_ids, held_keys, ids_at, ids_in, keys_by, keys_of_face, node_at, texts_by}
 use Rattle.zq_tables.specs.declared.holder.Holder.{Holder}
 use Rattle.zq_tables.proofs.Entries.{shown-set, weigh-removed}
 use Rattle.zq_tables.proofs.Holders.{held_part, none_keys, same_ids}
 use Rattle.zq_tables.proofs.Holds.{hold_itself, holds_at}
 
+-- with other keys at the faces
+abbrev pub with_faces : NamingState → List (ℕ × FaceKeys) → NamingState
+with_faces s faces = record s { faces = faces }
+
 -- ---- a face in the list of texts
 
-pub naming_at-texts : (names : List NameEntry) (faces : Faces) (face : ℕ) → naming_at face (texts_by names faces) ≡ option_map (keys_of_face names) (ids_at face faces)
-naming_at-texts names faces face = lookup-map_values (keys_of_face names) (is_at (nat_cmp face)) faces
+pub naming_at-texts : (names : List NameEntry) (faces : Faces) (rows : EntryNodes) (face : ℕ) → naming_at face (texts_by names faces rows) ≡ option_map (keys_of_face names) (ids_at face faces)
+naming_at-texts names faces rows face = lookup-map_values (keys_of_face names) (is_at (nat_cmp face)) faces
 
-pub naming_there : (names : List NameEntry) (faces : Faces) (face : ℕ) (f : FaceHolds) → ids_at face faces ≡ Some f → naming_at face (texts_by names faces) ≡ Some (keys_of_face names f)
-naming_there names faces face f at = naming_at-texts names faces face ∙ ap (option_map (keys_of_face names)) at
+pub naming_there : (names : List NameEntry) (faces : Faces) (rows : EntryNodes) (face : ℕ) (f : FaceHolds) → ids_at face faces ≡ Some f → naming_at face (texts_by names faces rows) ≡ Some (keys_of_face names f)
+naming_there names faces rows face f at = naming_at-texts names faces rows face ∙ ap (option_map (keys_of_face names)) at
 
-pub naming_closed : (names : List NameEntry) (faces : Faces) (face : ℕ) → ids_at face faces ≡ None → naming_at face (texts_by names faces) ≡ None
-naming_closed names faces face at = naming_at-texts names faces face ∙ ap (option_map (keys_of_face names)) at
+pub naming_closed : (names : List NameEntry) (faces : Faces) (rows : EntryNodes) (face : ℕ) → ids_at face faces ≡ None → naming_at face (texts_by names faces rows) ≡ None
+naming_closed names faces rows face at = naming_at-texts names faces rows face ∙ ap (option_map (keys_of_face names)) at
 
-pub keys_there : (names : List NameEntry) (faces : Faces) (face : ℕ) (f : FaceHolds) → ids_at face faces ≡ Some f → face_keys face (texts_by names faces) ≡ keys_of_face names f
-keys_there names faces face f at = ap (λ (o : Option FaceKeys). unwrap_or o no_keys) (naming_there names faces face f at)
+pub keys_there : (names : List NameEntry) (faces : Faces) (rows : EntryNodes) (face : ℕ) (f : FaceHolds) → ids_at face faces ≡ Some f → face_keys face (texts_by names faces rows) ≡ keys_of_face names f
+keys_there names faces rows face f at = ap (λ (o : Option FaceKeys). unwrap_or o no_keys) (naming_there names faces rows face f at)
 
-pub keys_closed : (names : List NameEntry) (faces : Faces) (face : ℕ) → ids_at face faces ≡ None → face_keys face (texts_by names faces) ≡ no_keys
-keys_closed names faces face at = ap (λ (o : Option FaceKeys). unwrap_or o no_keys) (naming_closed names faces face at)
+pub keys_closed : (names : List NameEntry) (faces : Faces) (rows : EntryNodes) (face : ℕ) → ids_at face faces ≡ None → face_keys face (texts_by names faces rows) ≡ no_keys
+keys_closed names faces rows face at = ap (λ (o : Option FaceKeys). unwrap_or o no_keys) (naming_closed names faces rows face at)
 
-pub face_there : (names : List NameEntry) (faces : Faces) (face : ℕ) (f : FaceHolds) → ids_at face faces ≡ Some f → face_naming face (texts_by names faces) ≡ texts_of names f.numbers
-face_there names faces face f at = ap (λ (n : FaceKeys). n.numbers) (keys_there names faces face f at)
+pub face_there : (names : List NameEntry) (faces : Faces) (rows : EntryNodes) (face : ℕ) (f : FaceHolds) → ids_at face faces ≡ Some f → face_naming face (texts_by names faces rows) ≡ texts_of names f.numbers
+face_there names faces rows face f at = ap (λ (n : FaceKeys). n.numbers) (keys_there names faces rows face f at)
 
-pub face_closed : (names : List NameEntry) (faces : Faces) (face : ℕ) → ids_at face faces ≡ None → face_naming face (texts_by names faces) ≡ no_names
-face_closed names faces face at = ap (λ (n : FaceKeys). n.numbers) (keys_closed names faces face at)
+pub face_closed : (names : List NameEntry) (faces : Faces) (rows : EntryNodes) (face : ℕ) → ids_at face faces ≡ None → face_naming face (texts_by names faces rows) ≡ no_names
+face_closed names faces rows face at = ap (λ (n : FaceKeys). n.numbers) (keys_closed names faces rows face at)
 
-pub change_there : (names : List NameEntry) (faces : Faces) (face : ℕ) (f : FaceHolds) (g : FaceKeys → FaceKeys) → ids_at face faces ≡ Some f → change_naming face g (texts_by names faces) ≡ set_value (is_at (nat_cmp face)) (texts_by names faces) (g (keys_of_face names f))
-change_there names faces face f g at = ap (put_naming face g (texts_by names faces)) (naming_there names faces face f at)
+pub change_there : (names : List NameEntry) (faces : Faces) (rows : EntryNodes) (face : ℕ) (f : FaceHolds) (g : FaceKeys → FaceKeys) → ids_at face faces ≡ Some f → change_naming face g (texts_by names faces rows) ≡ with_faces (texts_by names faces rows) (set_value (is_at (nat_cmp face)) (keys_by names faces) (g (keys_of_face names f)))
+change_there names faces rows face f g at = ap (put_naming face g (texts_by names faces rows)) (naming_there names faces rows face f at)
 
 -- a change that leaves the face as it is, or finds it closed
-pub change_idle : (names : List NameEntry) (faces : Faces) (face : ℕ) (g : FaceKeys → FaceKeys) → ((f : FaceHolds) → ids_at face faces ≡ Some f → g (keys_of_face names f) ≡ keys_of_face names f) → texts_by names faces ≡ change_naming face g (texts_by names faces)
-change_idle names faces face g same = by (ids_at face faces) refl
+pub change_idle : (names : List NameEntry) (faces : Faces) (rows : EntryNodes) (face : ℕ) (g : FaceKeys → FaceKeys) → ((f : FaceHolds) → ids_at face faces ≡ Some f → g (keys_of_face names f) ≡ keys_of_face names f) → texts_by names faces rows ≡ change_naming face g (texts_by names faces rows)
+change_idle names faces rows face g same = by (ids_at face faces) refl
   where
-    by : (o : Option FaceHolds) → ids_at face faces ≡ o → texts_by names faces ≡ change_naming face g (texts_by names faces)
-    by None at = sym (ap (put_naming face g (texts_by names faces)) (naming_closed names faces face at))
+    by : (o : Option FaceHolds) → ids_at face faces ≡ o → texts_by names faces rows ≡ change_naming face g (texts_by names faces rows)
+    by None at = sym (ap (put_naming face g (texts_by names faces rows)) (naming_closed names faces rows face at))
     by (Some f) at =
         sym (
-        change_there names faces face f g at
-        ∙ ap (set_value (is_at (nat_cmp face)) (texts_by names faces)) (same f at)
-        ∙ set_value_same (is_at (nat_cmp face)) (texts_by names faces) (keys_of_face names f) (naming_there names faces face f at)
+        change_there names faces rows face f g at
+        ∙ ap (λ (n : FaceKeys). with_faces (texts_by names faces rows) (set_value (is_at (nat_cmp face)) (keys_by names faces) n)) (same f at)
+        ∙ ap (with_faces (texts_by names faces rows)) (set_value_same (is_at (nat_cmp face)) (keys_by names faces) (keys_of_face names f) (naming_there names faces rows face f at))
         )
 
-pub set_texts : (names : List NameEntry) (faces faces' : Faces) (face : ℕ) (f f' : FaceHolds) (g : FaceKeys → FaceKeys) → ids_at face faces ≡ Some f → faces' ≡ set_value (is_at (nat_cmp face)) faces f' → keys_of_face names f' ≡ g (keys_of_face names f) → texts_by names faces' ≡ change_naming face g (texts_by names faces)
-set_texts names faces faces' face f f' g at put is =
-    ap (texts_by names) put
+pub set_texts : (names : List NameEntry) (faces faces' : Faces) (rows : EntryNodes) (face : ℕ) (f f' : FaceHolds) (g : FaceKeys → FaceKeys) → ids_at face faces ≡ Some f → faces' ≡ set_value (is_at (nat_cmp face)) faces f' → keys_of_face names f' ≡ g (keys_of_face names f) → texts_by names faces' rows ≡ change_naming face g (texts_by names faces rows)
+set_texts names faces faces' rows face f f' g at put is =
+    ap (with_faces (texts_by names faces rows)) (
+    ap (keys_by names) put
     ∙ shown-set (keys_of_face names) (is_at (nat_cmp face)) faces f'
-    ∙ ap (set_value (is_at (nat_cmp face)) (texts_by names faces)) is
-    ∙ sym (change_there names faces face f g at)
+    ∙ ap (set_value (is_at (nat_cmp face)) (keys_by names faces)) is
+    )
+    ∙ sym (change_there names faces rows face f g at)
 
 -- ---- one entry of the names changed
 
@@ -82,18 +88,18 @@ pub ids_is : (h : Holder) (id n : ℕ) (o : Option FaceHolds) → of_id (ids_in 
 ids_is h id n None is = absurd (none-some n is)
 ids_is h id n (Some f) is = (f, refl, is)
 
-pub node_live : (h : Holder) (names : List NameEntry) (faces : Faces) (face id n : ℕ) → IsHeld names faces → node_at h face id faces ≡ Some n → Contains (ids names) n
-node_live h names faces face id n held is =
+pub node_live : (h : Holder) (names : List NameEntry) (faces : Faces) (rows : EntryNodes) (face id n : ℕ) → IsHeld names faces rows → node_at h face id faces ≡ Some n → Contains (ids names) n
+node_live h names faces rows face id n held is =
     let there = ids_is h id n (ids_at face faces) is in
     let one = weigh-removed (hold_of n) (is_at (nat_cmp id)) (held_ids h there.0) n there.2 in
     held.live n (omega (arith, one, hold_itself n, held_part h n there.0, holds_at n face faces there.0 there.1))
 
-pub ids_texts : (h : Holder) (names : List NameEntry) (faces : Faces) (face : ℕ) → id_texts names (ids_in h (ids_at face faces)) ≡ held_keys h (face_keys face (texts_by names faces))
-ids_texts h names faces face = by (ids_at face faces) refl
+pub ids_texts : (h : Holder) (names : List NameEntry) (faces : Faces) (rows : EntryNodes) (face : ℕ) → id_texts names (ids_in h (ids_at face faces)) ≡ held_keys h (face_keys face (texts_by names faces rows))
+ids_texts h names faces rows face = by (ids_at face faces) refl
   where
-    by : (o : Option FaceHolds) → ids_at face faces ≡ o → id_texts names (ids_in h o) ≡ held_keys h (face_keys face (texts_by names faces))
-    by None at = sym (none_keys h) ∙ ap (held_keys h) (sym (keys_closed names faces face at))
-    by (Some f) at = same_ids h names f ∙ ap (held_keys h) (sym (keys_there names faces face f at))
+    by : (o : Option FaceHolds) → ids_at face faces ≡ o → id_texts names (ids_in h o) ≡ held_keys h (face_keys face (texts_by names faces rows))
+    by None at = sym (none_keys h) ∙ ap (held_keys h) (sym (keys_closed names faces rows face at))
+    by (Some f) at = same_ids h names f ∙ ap (held_keys h) (sym (keys_there names faces rows face f at))
 
 id_text : (names : List NameEntry) (es : List (ℕ × ℕ)) (id : ℕ) → option_map (λ (n : ℕ). (entry_at names n).text) (of_id es id) ≡ text_at id (id_texts names es)
 id_text names es id = sym (lookup-map_values (λ (k : ℕ). (entry_at names k).text) (is_at (nat_cmp id)) es)
@@ -101,5 +107,5 @@ id_text names es id = sym (lookup-map_values (λ (k : ℕ). (entry_at names k).t
 pub shown_text : (names : List NameEntry) (es : List (ℕ × ℕ)) (id : ℕ) (o : Option ℕ) → of_id es id ≡ o → text_at id (id_texts names es) ≡ option_map (λ (n : ℕ). (entry_at names n).text) o
 shown_text names es id o is = sym (id_text names es id) ∙ ap (option_map (λ (n : ℕ). (entry_at names n).text)) is
 
-pub node_text : (h : Holder) (names : List NameEntry) (faces : Faces) (face id : ℕ) → option_map (λ (n : ℕ). (entry_at names n).text) (node_at h face id faces) ≡ text_at id (held_keys h (face_keys face (texts_by names faces)))
-node_text h names faces face id = id_text names (ids_in h (ids_at face faces)) id ∙ ap (text_at id) (ids_texts h names faces face)
+pub node_text : (h : Holder) (names : List NameEntry) (faces : Faces) (rows : EntryNodes) (face id : ℕ) → option_map (λ (n : ℕ). (entry_at names n).text) (node_at h face id faces) ≡ text_at id (held_keys h (face_keys face (texts_by names faces rows)))
+node_text h names faces rows face id = id_text names (ids_in h (ids_at face faces)) id ∙ ap (text_at id) (ids_texts h names faces rows face)

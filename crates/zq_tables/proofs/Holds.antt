@@ -13,7 +13,7 @@ use Rattle.zq_tables.specs.FaceTexts.{id_texts}
 use Rattle.zq_message.specs.declared.message.Mapping.TheVariants.{Sender, Receiver}
 use Rattle.zq_tables.specs.Naming.{FaceKeys}
 use Rattle.zq_tables.specs.declared.holder.Holder.TheVariants.{Number, Queryable, Interest}
-use Rattle.zq_tables.specs.Holding.{FaceHolds, Faces, IsFace, IsHeld, hold_of, side_holds, face_holds, holds_by, ids_at, keys_of_face, texts_by}
+use Rattle.zq_tables.specs.Holding.{EntryNodes, FaceHolds, Faces, IsFace, IsHeld, hold_of, side_holds, face_holds, holds_by, ids_at, keys_by, keys_of_face}
 use Rattle.zq_tables.proofs.Entries.{Rises-length, weigh-removed}
 
 pub hold_itself : (n : ℕ) → hold_of n n ≡ 1
@@ -62,11 +62,17 @@ live_side names (e ∷ es) live =
 pub holds_at : (i face : ℕ) (faces : Faces) (f : FaceHolds) → ids_at face faces ≡ Some f → face_holds i f ≤ holds_by i faces
 holds_at i face faces f at = omega (arith, weigh-removed (face_holds i) (is_at (nat_cmp face)) faces f at)
 
-pub live_at : (names : List NameEntry) (faces : Faces) (face : ℕ) (f : FaceHolds) → IsHeld names faces → ids_at face faces ≡ Some f → AreLive names f.numbers
-live_at names faces face f held at = record {
-  theirs = live_side names f.numbers.theirs (λ i some. held.live i (omega (arith, some, holds_at i face faces f at)));
-  ours = live_side names f.numbers.ours (λ i some. held.live i (omega (arith, some, holds_at i face faces f at)));
+pub live_face : (names : List NameEntry) (faces : Faces) (face : ℕ) (f : FaceHolds) → ((i : ℕ) → 0 < holds_by i faces → Contains (ids names) i) → ids_at face faces ≡ Some f → AreLive names f.numbers
+live_face names faces face f live at = record {
+  theirs = live_side names f.numbers.theirs (λ i some. live i (omega (arith, some, holds_at i face faces f at)));
+  ours = live_side names f.numbers.ours (λ i some. live i (omega (arith, some, holds_at i face faces f at)));
 }
+
+pub faces_live : (names : List NameEntry) (faces : Faces) (rows : EntryNodes) → IsHeld names faces rows → (i : ℕ) → 0 < holds_by i faces → Contains (ids names) i
+faces_live names faces rows held i some = held.live i (omega (arith, some))
+
+pub live_at : (names : List NameEntry) (faces : Faces) (rows : EntryNodes) (face : ℕ) (f : FaceHolds) → IsHeld names faces rows → ids_at face faces ≡ Some f → AreLive names f.numbers
+live_at names faces rows face f held at = live_face names faces face f (faces_live names faces rows held) at
 
 pub face_at : (faces : Faces) (face : ℕ) (f : FaceHolds) → All IsFace (values_of faces) → ids_at face faces ≡ Some f → IsFace f
 face_at [] face f all at = absurd (none-some f at)
@@ -92,9 +98,9 @@ same_face names names' f same =
       same_side names names' f.interests (λ i some. same i (omega (arith, some))),
     ) refl
 
-pub same_texts : (names names' : List NameEntry) (faces : Faces) → ((i : ℕ) → 0 < holds_by i faces → (entry_at names' i).text ≡ (entry_at names i).text) → texts_by names' faces ≡ texts_by names faces
-same_texts names names' [] same = refl
-same_texts names names' (p ∷ ps) same =
+pub same_keys : (names names' : List NameEntry) (faces : Faces) → ((i : ℕ) → 0 < holds_by i faces → (entry_at names' i).text ≡ (entry_at names i).text) → keys_by names' faces ≡ keys_by names faces
+same_keys names names' [] same = refl
+same_keys names names' (p ∷ ps) same =
     let here : keys_of_face names' p.1 ≡ keys_of_face names p.1 = same_face names names' p.1 (λ i some. same i (omega (arith, some))) in
-    let rest = same_texts names names' ps (λ i some. same i (omega (arith, some))) in
-    ap (λ (n : FaceKeys). (p.0, n) ∷ texts_by names' ps) here ∙ ap (λ l. (p.0, keys_of_face names p.1) ∷ l) rest
+    let rest = same_keys names names' ps (λ i some. same i (omega (arith, some))) in
+    ap (λ (n : FaceKeys). (p.0, n) ∷ keys_by names' ps) here ∙ ap (λ l. (p.0, keys_of_face names p.1) ∷ l) rest

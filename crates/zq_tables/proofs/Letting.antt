@@ -11,13 +11,14 @@ use Rattle.zq_names.specs.Idle.{IdleAt, NoneIdle}
 use Rattle.zq_names.specs.Keeping.{AllStay, NoneCome, ChangesAt}
 use Rattle.zq_tables.specs.FaceIds.{without_id}
 use Rattle.zq_tables.specs.FaceTexts.{id_texts}
-use Rattle.zq_tables.specs.Naming.{Names, change_naming}
-use Rattle.zq_tables.specs.Holding.{FaceHolds, Faces, InHand, IsFace, IsHeld, LetsGo, TakesHold, hold_of, face_holds, held_ids, held_keys, holds_by, ids_at, least, limit, node_at, put_ids, change_ids, keys_of_face, texts_by, with_keys, without_key, without_node}
+use Rattle.zq_tables.specs.Naming.{EntryRows, FaceKeys, Names, change_naming, with_rows}
+use Rattle.zq_tables.specs.Holding.{EntryNodes, FaceHolds, Faces, InHand, IsFace, IsHeld, LetsGo, TakesHold, all_holds, hold_of, face_holds, held_ids, held_keys, holds_by, ids_at, least, limit, node_at, put_ids, change_ids, keys_by, keys_of_face, rows_by, texts_by, with_keys, without_key, without_node}
 use Rattle.zq_tables.specs.declared.holder.Holder.{Holder}
 use Rattle.zq_tables.proofs.Entries.{Rises-without_id, weigh-removed, weigh-set, shown-removed}
-use Rattle.zq_tables.proofs.Faces.{ids_is, set_texts, changed_text}
+use Rattle.zq_tables.proofs.EntryRows.{few_rows, rows_stay, same_rows}
+use Rattle.zq_tables.proofs.Faces.{ids_is, set_texts, changed_text, with_faces}
 use Rattle.zq_tables.proofs.Holders.{holds_with, rises_with, same_ids, shown_with}
-use Rattle.zq_tables.proofs.Holds.{hold_itself, hold_other, few_holds, face_at, same_texts}
+use Rattle.zq_tables.proofs.Holds.{hold_itself, hold_other, few_holds, face_at, same_keys}
 use Rattle.zq_tables.proofs.Lean.{lean_held, lean_unheld}
 
 -- ---- what a hold changes
@@ -90,111 +91,126 @@ lets old middle new n some changes all stays kept lean =
       lean = λ none. lean (lean_unheld old middle n all none);
     }
 
+-- ---- texts that are as they were
+
+both_texts : (names names' : List NameEntry) (faces : Faces) (rows : EntryNodes) → keys_by names' faces ≡ keys_by names faces → rows_by names' rows ≡ rows_by names rows → texts_by names' faces rows ≡ texts_by names faces rows
+both_texts names names' faces rows keys texts =
+    ap (λ (l : List (ℕ × FaceKeys)). with_faces (texts_by names' faces rows) l) keys ∙ ap (λ (l : EntryRows). with_rows l (texts_by names faces rows)) texts
+
 -- ---- a hold is taken in hand
 
 -- no node is held too often
-pub room_held : (names : List NameEntry) (faces : Faces) → IsHeld names faces → length faces < 2 ^ 63 → (i : ℕ) → Contains (ids names) i → (entry_at names i).holds + 1 < 2 ^ 128
-room_held names faces held few i has = omega (arith, few, held.counted i has, few_holds i faces held.sides)
+pub room_held : (names : List NameEntry) (faces : Faces) (rows : EntryNodes) → IsHeld names faces rows → length faces < 2 ^ 63 → (i : ℕ) → Contains (ids names) i → (entry_at names i).holds + 1 < 2 ^ 128
+room_held names faces rows held few i has = omega (arith, few, held.counted i has, few_holds i faces held.sides, few_rows names i rows held.order)
 
-module _ (names names' : List NameEntry) (faces : Faces) (t : List ℕ) (r : ℕ) (held : IsHeld names faces) (takes : TakesHold names names' t r) where
-  counted_taken : (i : ℕ) → Contains (ids names') i → (entry_at names' i).holds ≡ holds_by i faces + hold_of i r
+module _ (names names' : List NameEntry) (faces : Faces) (rows : EntryNodes) (t : List ℕ) (r : ℕ) (held : IsHeld names faces rows) (takes : TakesHold names names' t r) where
+  counted_taken : (i : ℕ) → Contains (ids names') i → (entry_at names' i).holds ≡ all_holds i faces rows + hold_of i r
   counted_taken i has = elim (takes.fresh i has) [
     | inl before ↦ stayed before
-    | inr new ↦ by (holds_by i faces) refl new
+    | inr new ↦ by (all_holds i faces rows) refl new
   ]
     where
-      stayed : Contains (ids names) i → (entry_at names' i).holds ≡ holds_by i faces + hold_of i r
+      stayed : Contains (ids names) i → (entry_at names' i).holds ≡ all_holds i faces rows + hold_of i r
       stayed before = omega (arith, (takes.kept i before).2, held.counted i before)
 
-      by : (m : ℕ) → holds_by i faces ≡ m → (entry_at names' i).holds ≡ hold_of i r → (entry_at names' i).holds ≡ holds_by i faces + hold_of i r
+      by : (m : ℕ) → all_holds i faces rows ≡ m → (entry_at names' i).holds ≡ hold_of i r → (entry_at names' i).holds ≡ all_holds i faces rows + hold_of i r
       by zero is new = omega (arith, is, new)
       by (suc m) is new = stayed (held.live i (omega (arith, is)))
 
-  live_taken : (i : ℕ) → 0 < holds_by i faces + hold_of i r → Contains (ids names') i
+  live_taken : (i : ℕ) → 0 < all_holds i faces rows + hold_of i r → Contains (ids names') i
   live_taken i some = elim (cases_eq i r) [
     | inl same ↦ let C : ℕ → Type 0 = λ (k : ℕ). Contains (ids names') k in subst C (sym same) takes.live
     | inr differ ↦ (takes.kept i (held.live i (omega (arith, some, hold_other i r (λ same. differ (sym same)))))).0
   ]
 
-  pub taken : InHand names' faces r
-  taken = record { live = live_taken; counted = counted_taken; sides = held.sides; lean = takes.lean held.lean }
+  pub taken_rows : rows_by names' rows ≡ rows_by names rows
+  taken_rows = same_rows names names' rows (λ i some. (takes.kept i (held.live i (omega (arith, some)))).1)
 
-  pub taken_texts : texts_by names' faces ≡ texts_by names faces
-  taken_texts = same_texts names names' faces (λ i some. (takes.kept i (held.live i some)).1)
+  pub taken : InHand names' faces rows r
+  taken = record { live = live_taken; counted = counted_taken; sides = held.sides; order = rows_stay names names' rows taken_rows held.order; lean = takes.lean held.lean }
+
+  pub taken_texts : texts_by names' faces rows ≡ texts_by names faces rows
+  taken_texts = both_texts names names' faces rows (same_keys names names' faces (λ i some. (takes.kept i (held.live i (omega (arith, some)))).1)) taken_rows
 
 -- ---- the hold in hand is let go
 
-pub in_hand_held : (names : List NameEntry) (faces : Faces) (n : ℕ) → InHand names faces n → 0 < (entry_at names n).holds
-in_hand_held names faces n hand =
+pub in_hand_held : (names : List NameEntry) (faces : Faces) (rows : EntryNodes) (n : ℕ) → InHand names faces rows n → 0 < (entry_at names n).holds
+in_hand_held names faces rows n hand =
     let once = hold_itself n in
     let live = hand.live n (omega (arith, once)) in
     omega (arith, hand.counted n live, once)
 
-pub in_hand_live : (names : List NameEntry) (faces : Faces) (n : ℕ) → InHand names faces n → Contains (ids names) n
-in_hand_live names faces n hand = hand.live n (omega (arith, hold_itself n))
+pub in_hand_live : (names : List NameEntry) (faces : Faces) (rows : EntryNodes) (n : ℕ) → InHand names faces rows n → Contains (ids names) n
+in_hand_live names faces rows n hand = hand.live n (omega (arith, hold_itself n))
 
-module _ (names names' : List NameEntry) (faces : Faces) (n : ℕ) (hand : InHand names faces n) (lets : LetsGo names names' n) where
-  live_left : (i : ℕ) → 0 < holds_by i faces → Contains (ids names') i
+module _ (names names' : List NameEntry) (faces : Faces) (rows : EntryNodes) (n : ℕ) (hand : InHand names faces rows n) (lets : LetsGo names names' n) where
+  live_left : (i : ℕ) → 0 < all_holds i faces rows → Contains (ids names') i
   live_left i some =
       let has = hand.live i (omega (arith, some)) in
       lets.stays i has (omega (arith, some, hand.counted i has))
 
-  pub left : IsHeld names' faces
+  left_rows : rows_by names' rows ≡ rows_by names rows
+  left_rows = same_rows names names' rows (λ i some. (lets.kept i (live_left i (omega (arith, some)))).1)
+
+  pub left : IsHeld names' faces rows
   left = record {
     live = live_left;
     counted = λ i has. omega (arith, (lets.kept i has).2, hand.counted i (lets.kept i has).0);
     sides = hand.sides;
+    order = rows_stay names names' rows left_rows hand.order;
     lean = lets.lean hand.lean;
   }
 
-  pub left_texts : texts_by names' faces ≡ texts_by names faces
-  left_texts = same_texts names names' faces (λ i some. (lets.kept i (live_left i some)).1)
+  pub left_texts : texts_by names' faces rows ≡ texts_by names faces rows
+  left_texts = both_texts names names' faces rows (same_keys names names' faces (λ i some. (lets.kept i (live_left i (omega (arith, some)))).1)) left_rows
 
 -- ---- a face is changed by what is in hand
 
-module _ (names : List NameEntry) (faces faces' : Faces) (face n : ℕ) (was is : FaceHolds) (at : ids_at face faces ≡ Some was) (put : faces' ≡ set_value (is_at (nat_cmp face)) faces is) (is_face : IsFace is) where
+module _ (names : List NameEntry) (faces faces' : Faces) (rows : EntryNodes) (face n : ℕ) (was is : FaceHolds) (at : ids_at face faces ≡ Some was) (put : faces' ≡ set_value (is_at (nat_cmp face)) faces is) (is_face : IsFace is) where
   sides_put : All IsFace (values_of faces) → All IsFace (values_of faces')
   sides_put sides = let A : Faces → Type 0 = λ (fs : Faces). All IsFace (values_of fs) in subst A (sym put) (All-values-set_value (is_at (nat_cmp face)) IsFace faces is sides is_face)
 
   -- the hold in hand is that of an id from then on
-  pub placed : InHand names faces n → ((i : ℕ) → face_holds i is ≡ face_holds i was + hold_of i n) → IsHeld names faces'
+  pub placed : InHand names faces rows n → ((i : ℕ) → face_holds i is ≡ face_holds i was + hold_of i n) → IsHeld names faces' rows
   placed hand more =
       let count : (i : ℕ) → holds_by i faces' ≡ holds_by i faces + hold_of i n = λ i. omega (arith, weigh-set (face_holds i) (is_at (nat_cmp face)) faces was is at, more i, ap (holds_by i) put) in
       record {
         live = λ i some. hand.live i (omega (arith, some, count i));
-        counted = λ i has. hand.counted i has ∙ sym (count i);
+        counted = λ i has. omega (arith, hand.counted i has, count i);
         sides = sides_put hand.sides;
+        order = hand.order;
         lean = hand.lean;
       }
 
   -- what an id held comes into hand
-  pub freed : IsHeld names faces → ((i : ℕ) → face_holds i is + hold_of i n ≡ face_holds i was) → InHand names faces' n
+  pub freed : IsHeld names faces rows → ((i : ℕ) → face_holds i is + hold_of i n ≡ face_holds i was) → InHand names faces' rows n
   freed held less =
       let count : (i : ℕ) → holds_by i faces' + hold_of i n ≡ holds_by i faces = λ i. omega (arith, weigh-set (face_holds i) (is_at (nat_cmp face)) faces was is at, less i, ap (holds_by i) put) in
       record {
         live = λ i some. held.live i (omega (arith, some, count i));
         counted = λ i has. omega (arith, held.counted i has, count i);
         sides = sides_put held.sides;
+        order = held.order;
         lean = held.lean;
       }
 
 -- ---- an id is let go
 
-module _ (h : Holder) (names : List NameEntry) (faces faces' : Faces) (face id n : ℕ) (node : node_at h face id faces ≡ Some n) (put : faces' ≡ change_ids face (without_node h id) faces) where
-  pub id_freed : IsHeld names faces → InHand names faces' n
+module _ (h : Holder) (names : List NameEntry) (faces faces' : Faces) (rows : EntryNodes) (face id n : ℕ) (node : node_at h face id faces ≡ Some n) (put : faces' ≡ change_ids face (without_node h id) faces) where
+  pub id_freed : IsHeld names faces rows → InHand names faces' rows n
   id_freed held =
       let there = ids_is h id n (ids_at face faces) node in
       let ids = held_ids h there.0 in
       let old = face_at faces face there.0 held.sides there.1 in
       let is_face = rises_with h there.0 (without_id ids id) old (Rises-without_id (limit h) (least h) id ids (old.rises h)) in
-      freed names faces faces' face n there.0 (without_node h id there.0) there.1 (put ∙ ap (put_ids face (without_node h id) faces) there.1) is_face held
+      freed names faces faces' rows face n there.0 (without_node h id there.0) there.1 (put ∙ ap (put_ids face (without_node h id) faces) there.1) is_face held
       (λ i. omega (arith, weigh-removed (hold_of i) (is_at (nat_cmp id)) ids n there.2, holds_with h i there.0 (without_id ids id)))
 
-  pub id_freed_texts : texts_by names faces' ≡ change_naming face (without_key h id) (texts_by names faces)
+  pub id_freed_texts : texts_by names faces' rows ≡ change_naming face (without_key h id) (texts_by names faces rows)
   id_freed_texts =
       let there = ids_is h id n (ids_at face faces) node in
       let ids = held_ids h there.0 in
       let shown : id_texts names (without_id ids id) ≡ without_id (held_keys h (keys_of_face names there.0)) id =
       shown-removed (λ (k : ℕ). (entry_at names k).text) (is_at (nat_cmp id)) ids ∙ ap (λ (l : Names). without_id l id) (same_ids h names there.0) in
-      set_texts names faces faces' face there.0 (without_node h id there.0) (without_key h id) there.1 (put ∙ ap (put_ids face (without_node h id) faces) there.1)
+      set_texts names faces faces' rows face there.0 (without_node h id there.0) (without_key h id) there.1 (put ∙ ap (put_ids face (without_node h id) faces) there.1)
       (shown_with h names there.0 (without_id ids id) ∙ ap (with_keys h (keys_of_face names there.0)) shown)

@@ -14,7 +14,7 @@ use Rattle.zq_names.specs.Keeping.{AllStay}
 use Rattle.zq_names.specs.Idle.{IdleAt, NoneIdle}
 use Rattle.zq_tables.specs.FaceIds.{FaceIds, of_id, next_id, side, with_side, with_id, without_id}
 use Rattle.zq_tables.specs.FaceTexts.{id_texts, texts_of}
-use Rattle.zq_tables.specs.Naming.{EntryRows, FaceKeys, Names, NamingState, first_stays, sent_side, with_sent}
+use Rattle.zq_tables.specs.Naming.{EntryRows, FaceKeys, IsEntryRow, Names, NamingState, first_stays, sent_side, with_sent}
 use Rattle.zq_tables.specs.declared.holder.Holder.{Holder}
 use Rattle.zq_tables.specs.declared.holder.Holder.TheVariants.{Number, Queryable, Interest}
 
@@ -200,15 +200,10 @@ limit Interest = 4294967296
 pub record IsFace (f : FaceHolds) : Type 0 where
   pub rises : (h : Holder) → Rises (limit h) (least h) (held_ids h f)
 
--- a row has nodes, which rise by their texts
-pub record IsRow (names : List NameEntry) (nodes : List ℕ) : Type 0 where
-  pub some : 0 < length nodes
-  pub rise : IsStrictlySortedBy text_cmp (node_texts names nodes)
-
--- the regions have indices that rise, and each its row
+-- the indices of the regions rise, each has a node, and the nodes rise by their texts
 pub record AreRows (names : List NameEntry) (rows : EntryNodes) : Type 0 where
   pub regions : Rises 770 0 rows
-  pub each : All (IsRow names) (values_of rows)
+  pub each : All IsEntryRow (values_of (rows_by names rows))
 
 -- each node that is stood for is live, each node is held once for each number, queryable and interest that stands for it and once for each region with an entry on its text, and none is there for nothing
 pub record IsHeld (names : List NameEntry) (faces : Faces) (rows : EntryNodes) : Type 0 where
@@ -228,17 +223,24 @@ pub record InHand (names : List NameEntry) (faces : Faces) (rows : EntryNodes) (
 
 -- ---- where a key stands in a row
 
+-- the number is a node's
+pub record IsNode (names : List NameEntry) (n : ℕ) : Type 0 where
+  pub live : Contains (ids names) n
+
 -- the key is the text at a place
 pub record StandsAt (texts : List (List ℕ)) (key : List ℕ) (at : ℕ) : Type 0 where
   pub in_range : at < length texts
   pub there : list_any (is_at (text_cmp key)) texts ≡ true
+  pub stays : insert_key text_cmp texts key ≡ texts
   pub out : remove_key (is_at (text_cmp key)) texts ≡ remove texts at
+  pub rise : IsStrictlySortedBy text_cmp (remove texts at)
 
 -- the key is none of the texts, and would go to a place
 pub record GoesTo (texts : List (List ℕ)) (key : List ℕ) (at : ℕ) : Type 0 where
   pub in_range : at ≤ length texts
   pub absent : list_any (is_at (text_cmp key)) texts ≡ false
   pub put : insert_key text_cmp texts key ≡ insert texts at key
+  pub rise : IsStrictlySortedBy text_cmp (insert texts at key)
 
 -- ---- a hold is taken, and released
 

@@ -200,11 +200,15 @@ with_entry_key region key s = with_rows (with_row region (insert_key text_cmp (r
 abbrev pub without_entry_key : ℕ → List ℕ → NamingState → NamingState
 without_entry_key region key s = with_rows (with_row region (remove_key (is_at (text_cmp key)) (row_at region s.rows)) s.rows) s
 
--- the regions rise by index, each row has a key, and the keys of a row rise by text
+-- a row has keys, which rise by text
+pub record IsEntryRow (keys : List (List ℕ)) : Type 0 where
+  pub some : 0 < length keys
+  pub rise : IsStrictlySortedBy text_cmp keys
+
+-- the regions rise by index, and each has a row
 pub record AreEntryRows (rows : EntryRows) : Type 0 where
   pub regions : IsStrictlySortedBy nat_cmp (keys_of rows)
-  pub some : All (λ keys. 0 < length keys) (values_of rows)
-  pub rise : All (IsStrictlySortedBy text_cmp) (values_of rows)
+  pub each : All IsEntryRow (values_of rows)
 
 -- another text stands there
 abbrev pub is_other : List ℕ → Option (List ℕ) → Bool

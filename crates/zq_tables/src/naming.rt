@@ -451,10 +451,11 @@ impl Naming {
         // so many faces at most bound how often a node is held
         let _open = self.faces.len();
         let index = region_to_index(region);
-        let Err(at) = find(&self.rows, &self.names, index, key.as_str()) else {
+        let text = key.as_str();
+        let Err(at) = find(&self.rows, &self.names, index, text) else {
             return Ok(false);
         };
-        let node = take_hold(&mut self.names, key.as_str())?;
+        let node = take_hold(&mut self.names, text)?;
         match put(self.alloc, &mut self.rows, index, at, node) {
             Ok(()) => Ok(true),
             Err(refusal) => {

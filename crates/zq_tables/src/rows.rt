@@ -1,20 +1,18 @@
 //! The nodes of the keys on which routers of a region have an entry: a row for each region, in the order of the texts. No text is copied.
-ghost use Rattle.std.specs.Prelude.{◌≡◌, ◌≢◌, ◌+◌, ◌<◌, ◌≤◌, ◌^◌, true, false, [], ◌∷◌, ◌==◌, length, slice_index, IfErr, IfOk, OnErr, OnOk};
-ghost use Rattle.std.specs.List.{All, Contains, insert, remove};
+ghost use Rattle.std.specs.Prelude.{◌≡◌, ◌<◌, ◌≤◌, true, false, [], ◌∷◌, ◌==◌, length, slice_index, IfErr, IfOk, OnErr, OnOk};
+ghost use Rattle.std.specs.List.{All, insert, remove};
 ghost use Rattle.std.specs.List.Sorted.{IsStrictlySortedBy};
-ghost use Rattle.std.specs.Map.{keys_of, set_value};
+ghost use Rattle.std.specs.Map.{set_value};
 ghost use Rattle.std.specs.BTreeMap.{is_at, insert_entry};
-ghost use Rattle.std.specs.Ordering.{nat_cmp};
-ghost use Rattle.std.specs.declared.cmp.Ordering.TheVariants.{Less};
+ghost use Rattle.std.specs.Ordering.{is_eq, is_lt, nat_cmp};
 ghost use Rattle.zq_names.specs.Border.{IsBorder};
-ghost use Rattle.zq_names.specs.Names.{entry_at, ids};
+ghost use Rattle.zq_names.specs.Names.{entry_at};
 ghost use Rattle.zq_names.specs.Texts.{text_cmp};
-ghost use Rattle.zq_tables.specs.Holding.{GoesTo, StandsAt, node_texts};
+ghost use Rattle.zq_tables.specs.Holding.{GoesTo, IsNode, StandsAt, node_texts};
 ghost use Rattle.zq_tables.specs.Naming.{row_at, with_row};
 
 use crate::by_node::seat_in;
 use std::alloc::Global;
-use std::cmp::Ordering;
 use std::collections::BTreeMap;
 use zq_key::memory::OutOfMemory;
 use zq_names::{Names, ResourceId, Tree};
@@ -24,24 +22,32 @@ pub(crate) type EntryNodes = BTreeMap<usize, Tree>;
 
 // Whether the text of a node comes before the key.
 fn is_before(names: &Names, node: usize, key: &str) -> bool
-    requires { Contains (ids names.now) node }
-    ensures before { result ≡ true → text_cmp (entry_at names.now node).text key.now ≡ Less }
-    ensures not_before { result ≡ false → text_cmp (entry_at names.now node).text key.now ≢ Less }
+    requires { IsNode names.now node }
+    ensures { result ≡ is_lt (text_cmp (entry_at names.now node).text key.now) }
 {
-    names.expr(ResourceId(node as u64)).cmp(key) == Ordering::Less
+    names.expr(ResourceId(node as u64)).cmp(key).is_lt()
 }
 
 // The place in a row of the first text that does not come before the key.
 fn place_of(names: &Names, row: &Tree, key: &str) -> usize
-    requires { All (Contains (ids names.now)) row.now }
-    ensures { IsBorder (λ n. text_cmp (entry_at names.now n).text key.now ≡ Less) (λ n. text_cmp (entry_at names.now n).text key.now ≢ Less) row.now result }
+    requires { All (IsNode names.now) row.now }
+    ensures { IsBorder (λ n. is_lt (text_cmp (entry_at names.now n).text key.now) ≡ true) (λ n. is_lt (text_cmp (entry_at names.now n).text key.now) ≡ false) row.now result }
 {
     row.partition_point(|node| is_before(names, node, key))
 }
 
+// Whether the text of the node at a place is the key.
+fn is_key_at(names: &Names, row: &Tree, at: usize, key: &str) -> bool
+    requires live { All (IsNode names.now) row.now }
+    requires in_range { at < length row.now }
+    ensures { result ≡ is_eq (text_cmp (entry_at names.now (slice_index row.now at)).text key.now) }
+{
+    names.expr(ResourceId(row.get(at) as u64)).cmp(key).is_eq()
+}
+
 // The place of the key in a row, or where it would go.
 fn find_in(names: &Names, row: &Tree, key: &str) -> Result<usize, usize>
-    requires live { All (Contains (ids names.now)) row.now }
+    requires live { All (IsNode names.now) row.now }
     requires rise { IsStrictlySortedBy text_cmp (node_texts names.now row.now) }
     ensures found { IfOk result (StandsAt (node_texts names.now row.now) key.now) }
     ensures absent { IfErr result (GoesTo (node_texts names.now row.now) key.now) }
@@ -50,10 +56,10 @@ fn find_in(names: &Names, row: &Tree, key: &str) -> Result<usize, usize>
     if at >= row.len() {
         return Err(at);
     }
-    if names.expr(ResourceId(row.get(at) as u64)) != key {
-        return Err(at);
+    if is_key_at(names, row, at, key) {
+        return Ok(at);
     }
-    Ok(at)
+    Err(at)
 }
 
 // The place of the key in the region's row, or where it would go.
@@ -63,7 +69,7 @@ pub(crate) fn find(
     region: usize,
     key: &str,
 ) -> Result<usize, usize>
-    requires live { All (Contains (ids names.now)) (row_at region rows.now.entries) }
+    requires live { All (IsNode names.now) (row_at region rows.now.entries) }
     requires rise { IsStrictlySortedBy text_cmp (node_texts names.now (row_at region rows.now.entries)) }
     ensures found { IfOk result (StandsAt (node_texts names.now (row_at region rows.now.entries)) key.now) }
     ensures absent { IfErr result (GoesTo (node_texts names.now (row_at region rows.now.entries)) key.now) }

@@ -1,7 +1,7 @@
 use std::alloc::Global;
 use zq_given::wire;
 use zq_key::memory::OutOfMemory;
-use zq_key::message::{FaceId, WireExpr};
+use zq_key::message::{FaceId, Region, WireExpr};
 use zq_key::text::Text;
 use zq_key::{Key, is_key};
 use zq_names::NameRefusal;
@@ -31,6 +31,9 @@ struct Row<'a> {
     // says: the full text that the suffix says under the number
     // unscoped: the suffix says nothing, as the face has not that number
     // context: whether the text has a context
+    // enter: routers of the region have an entry on the text, and whether they had none before
+    // leave: they have none any more
+    // enters: whether they have one; the regions are North for one face and Local for the other
     // whole: the text is declared to the face, which may have no new number, under the number, with a suffix
     // told: the same where it may have one, and has none
     // fresh: the same where the number is new
@@ -186,6 +189,31 @@ fn id_comes_out(names: &mut Naming, alloc: Global, row: &Row<'_>) -> Result<bool
     }
 }
 
+// The region of a row.
+fn region_of(row: &Row<'_>) -> Region {
+    if row.face == FACE {
+        Region::North
+    } else {
+        Region::Local
+    }
+}
+
+// Whether what is done with a router's entry comes out as it must.
+fn entry_comes_out(names: &mut Naming, alloc: Global, row: &Row<'_>) -> Result<bool, OutOfMemory> {
+    let region = region_of(row);
+    match row.deed {
+        "leave" => {
+            names.release_entry(&region, row.text);
+            Ok(true)
+        }
+        "enters" => Ok(yes_or_no(names.holds_entry(&region, row.text)) == row.want),
+        _ => match Key::new(alloc, row.text) {
+            Ok(key) => Ok(yes_or_no(names.hold_entry(&region, &key)?) == row.want),
+            Err(_) => Ok(false),
+        },
+    }
+}
+
 // Whether what is done comes out as it must.
 fn comes_out(names: &mut Naming, alloc: Global, row: &Row<'_>) -> Result<bool, OutOfMemory> {
     match row.deed {
@@ -199,6 +227,7 @@ fn comes_out(names: &mut Naming, alloc: Global, row: &Row<'_>) -> Result<bool, O
         }
         "context" => Ok(yes_or_no(names.has_context(row.text)) == row.want),
         "hold" | "ask" => key_comes_out(names, alloc, row),
+        "enter" | "leave" | "enters" => entry_comes_out(names, alloc, row),
         "best" => best_comes_out(names, alloc, row),
         "whole" | "told" | "fresh" => telling_comes_out(names, row),
         _ => id_comes_out(names, alloc, row),
@@ -404,6 +433,39 @@ context 0 0 a false";
 #[test]
 fn contexts(rt: HostRuntime) {
     assert_eq!(rt; wrong_row(rt.alloc(), CONTEXTS), Ok(None));
+}
+
+// The key of routers' entries in a region holds its node once, whatever faces declare, until the
+// region has no entry on it any more. A face that closes leaves it.
+const ENTRIES: &str = "\
+enter 3 0 a/b true
+enter 3 0 a/b false
+enter 3 0 c true
+enter 3 0 a true
+enter 5 0 a/b true
+hold 3 1 c true
+close 3 0 . .
+context 0 0 c true
+enters 3 0 a/b true
+enters 5 0 a/b true
+enters 5 0 c false
+leave 3 0 a/b .
+leave 3 0 x .
+enters 3 0 a/b false
+enters 3 0 a true
+context 0 0 a/b true
+leave 5 0 a/b .
+context 0 0 a/b false
+context 0 0 a true
+leave 3 0 a .
+leave 3 0 c .
+context 0 0 a false
+context 0 0 c false
+enter 3 0 c true";
+
+#[test]
+fn entries(rt: HostRuntime) {
+    assert_eq!(rt; wrong_row(rt.alloc(), ENTRIES), Ok(None));
 }
 
 // A text is declared by a number of its part before the first chunk with a `*`, by a new one where

@@ -17,7 +17,8 @@ use Rattle.std.specs.Map.{remove_entry}
 use Rattle.std.proofs.lemmas.Cmp.{nat_cmp_total}
 use Rattle.std.proofs.lemmas.Map.Lookups.{exact_unsigned}
 use Rattle.zq_query.proofs.Owing.{undone}
-use Rattle.zq_tables.specs.Naming.{no_keys}
+use Rattle.zq_tables.specs.Naming.{closed_naming}
+use Rattle.zq_dispatcher.proofs.Opened.{closed_again}
 use Rattle.zq_told.specs.ToldSets.{closed, opened}
 use Rattle.zq_told.specs.Leaving.{fresh_ear}
 use Rattle.zq_told.specs.Rooms.{ears_of}
@@ -49,8 +50,8 @@ returns-in-Ok-tell_all-clause-plan g c = c.in-Ok-tell_all.ensures.plan ∙ ap (�
 
 pub returns-in-Err-tell_all-clause-no_names : goal.returns-in-Err-tell_all-clause-no_names
 returns-in-Err-tell_all-clause-no_names g c =
-    c.leave.ensures.names ∙ ap (remove_entry (is_at (nat_cmp c.args.face.0))) (c.in-Err-tell_all.ensures.err ∙ c.in-Ok.ensures.names)
-    ∙ undone nat_cmp_total exact_unsigned c.args.names.now c.args.face.0 no_keys c.requires.named
+    c.leave.ensures.names ∙ ap (closed_naming c.args.face.0) (c.in-Err-tell_all.ensures.err ∙ c.in-Ok.ensures.names)
+    ∙ closed_again c.args.face.0 c.args.names.now c.requires.named
 
 pub returns-in-Err-tell_all-clause-no_faces : goal.returns-in-Err-tell_all-clause-no_faces
 returns-in-Err-tell_all-clause-no_faces g c =

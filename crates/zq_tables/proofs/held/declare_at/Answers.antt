@@ -5,11 +5,11 @@ use Rattle.std.specs.BTreeMap.{is_at}
 use Rattle.std.proofs.lemmas.Map.Steps.{set_value_same}
 use Rattle.std.proofs.lemmas.Result.{on_err_weaker}
 use Rattle.zq_tables.specs.FaceIds.{FaceIds}
-use Rattle.zq_tables.proofs.Holds.{live_at}
+use Rattle.zq_tables.proofs.Holds.{live_face}
 use Rattle.zq_tables.proofs.held.declare_at.Goals as goal
 
 pub declare-requires-clause-live : goal.declare-requires-clause-live
-declare-requires-clause-live c = live_at c.args.names.now c.args.faces.now.entries c.args.face c.in-Some.nodes.now c.requires.held (sym c.in-Some.ensures.value)
+declare-requires-clause-live c = live_face c.args.names.now c.args.faces.now.entries c.args.face c.in-Some.nodes.now c.requires.live (sym c.in-Some.ensures.value)
 
 pub returns-clause-faces : goal.returns-clause-faces
 returns-clause-faces c =

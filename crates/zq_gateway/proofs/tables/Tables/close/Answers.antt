@@ -8,7 +8,7 @@ use Rattle.zq_strategy.specs.Kept.{without_face}
 use Rattle.zq_interests.specs.Interests.{closed_face, has_keyed}
 use Rattle.zq_query.specs.Closing.{after_close, closing_finals}
 use Rattle.zq_query.specs.Records.{QueryState}
-use Rattle.zq_tables.specs.Naming.{NamingState}
+use Rattle.zq_tables.specs.Naming.{NamingState, closed_naming}
 use Rattle.zq_told.specs.ToldSets.{closed as unheard}
 use Rattle.zq_told.specs.Rooms.{ears_of}
 use Rattle.zq_told.specs.Telling.{put_plan}
@@ -106,7 +106,7 @@ returns-in-Ok-close_told c =
     let finals_are = c.in_ok-finals.ensures ∙ ap (map sent_final) (c.as_slice.ensures ∙ c.in_ok-last.ensures ∙ ap (λ (q : QueryState). closing_finals face.0 q) queries) in
     let plain = closed_answered s c.requires face r home fits us are finals all.handed c.tell_all.new.names handed finals_are in
     let stays = closed_left s c.requires face r home fits us are finals all.handed c.tell_all.new.names handed in
-    let w : State = record { core = accepted s.core t; names = remove_entry (is_at (nat_cmp face.0)) c.tell_all.new.names; gates = without_gate face.0 s.gates } in
+    let w : State = record { core = accepted s.core t; names = closed_naming face.0 c.tell_all.new.names; gates = without_gate face.0 s.gates } in
     let es = c.in-Ok-close_told.exits.items in
     let after = c.close_told.new.gates in
     let out = closed_out s c.requires face r home fits us are finals all.handed c.tell_all.new.names handed finals_are i.gates (ap (λ (x : State). x.gates) v) es after c.in-Ok-close_told.ensures.out in

@@ -8,7 +8,8 @@ use Rattle.std.proofs.lemmas.Cmp.{nat_cmp_total}
 use Rattle.std.proofs.lemmas.Map.Lookups.{exact_unsigned}
 use Rattle.zq_query.proofs.Owing.{undone}
 use Rattle.zq_strategy.specs.Tellings.{in_order}
-use Rattle.zq_tables.specs.Naming.{NamingState, no_keys}
+use Rattle.zq_tables.specs.Naming.{NamingState, closed_naming, opened_naming}
+use Rattle.zq_dispatcher.proofs.Opened.{closed_again}
 use Rattle.zq_interests.specs.Interests.{interests_of, has_keyed}
 use Rattle.zq_told.specs.ToldSets.{ToldSets, closed as unheard, opened as heard_opened}
 use Rattle.zq_told.specs.Leaving.{fresh_ear}
@@ -77,7 +78,7 @@ enter_told-requires-clause-told c =
     let w : Core = record s.core { faces = insert_entry nat_cmp i.faces.entries i.next_face c.opened-2.result; interests = i.interests } in
     let ts = told_with (heard_opened i.next_face c.counters.result.now.told (ears_of i.ears)) c.as_slice.result.now [] in
     subst (λ (x : Told). AllByRecursion IsTold x.handed) (c.in-Ok.ensures.ok w refl (λ f k. refl))
-    (each_told w (map from_hat (in_order ts)) (insert_entry nat_cmp i.names i.next_face no_keys))
+    (each_told w (map from_hat (in_order ts)) (opened_naming i.next_face i.names))
 
 pub enter_told-requires-clause-ungated : goal.enter_told-requires-clause-ungated
 enter_told-requires-clause-ungated c =
@@ -186,7 +187,7 @@ returns c =
     let i = c.self.inside in
     let v = c.self.view_is in
     let reached = subst IsReached (sym v) c.requires.reached in
-    let names_back = c.take_back_joined.ensures.names ∙ ap (remove_entry (is_at (nat_cmp i.next_face))) c.in-Ok.ensures.taken ∙ undone nat_cmp_total exact_unsigned i.names i.next_face no_keys (reached_unnamed _ reached) ∙ ap (λ (x : State). x.names) v in
+    let names_back = c.take_back_joined.ensures.names ∙ ap (closed_naming i.next_face) c.in-Ok.ensures.taken ∙ closed_again i.next_face i.names (reached_unnamed _ reached) ∙ ap (λ (x : State). x.names) v in
     let faces_back = c.take_back_joined.ensures.faces ∙ ap (remove_entry (is_at (nat_cmp i.next_face))) c.in-Ok.ensures.faces ∙ undone nat_cmp_total exact_unsigned i.faces.entries i.next_face c.opened-2.result (reached_absent _ reached) ∙ ap (λ (x : State). x.core.faces) v in
     let ears_back =
     c.take_back_joined.ensures.ears ∙ ap (unheard i.next_face) c.in-Ok.ensures.ears ∙ undone nat_cmp_total exact_unsigned (ears_of i.ears) i.next_face (fresh_ear c.counters.result.now.told) (reached_unheard _ reached)

@@ -1,14 +1,16 @@
-use Rattle.std.proofs.Common.{◌≡◌, ◌∙◌, refl, sym, ap, Err, subst, List, drop, length, map, true≢false}
+use Rattle.std.proofs.Common.{◌≡◌, ◌∙◌, refl, sym, ap, Err, subst, ℕ, List, [], drop, fold, length, map, Some, true≢false}
 use Rattle.std.specs.List.{AllByRecursion}
+use Rattle.std.specs.Option.{is_some}
 use Rattle.zq_message.specs.declared.message.Zid.{Zid}
 use Rattle.zq_strategy.specs.Entries.{without_routers}
 use Rattle.zq_strategy.specs.Tellings.{in_order}
-use Rattle.zq_strategy.specs.Routers.{networked}
+use Rattle.zq_strategy.specs.Routers.{losing, networked}
+use Rattle.zq_strategy.specs.State.{HatState}
 use Rattle.zq_tables.specs.Naming.{NamingState}
 use Rattle.zq_interests.specs.Interests.{has_keyed}
 use Rattle.zq_told.specs.Rooms.{ears_of}
 use Rattle.zq_told.specs.Telling.{put_plan}
-use Rattle.zq_machine.specs.Deciding.{accepted}
+use Rattle.zq_machine.specs.Deciding.{accepted, renamed}
 use Rattle.zq_machine.specs.Handing.{Handed}
 use Rattle.zq_machine.specs.declared.call.Outcome.TheVariants as outcome
 use Rattle.zq_machine.specs.Messages.{from_hat}
@@ -17,9 +19,13 @@ use Rattle.zq_machine.specs.TextCalls.{networking}
 use Rattle.zq_machine.specs.Writing.{Told, tell}
 use Rattle.zq_egress.specs.Neighbours.{told_with}
 use Rattle.zq_egress.specs.Telling.{behind, untold}
+use Rattle.zq_machine.proofs.Agreeing.{some_of}
 use Rattle.zq_machine.proofs.Asks.{is_asking}
+use Rattle.zq_machine.proofs.Changing.{hat_here}
 use Rattle.zq_egress.specs.Gone.{IsTold}
+use Rattle.zq_gateway.specs.Entries.{without_gone}
 use Rattle.zq_gateway.specs.Gathering.{Gathers}
+use Rattle.zq_gateway.proofs.EntryKeys.{network_renamed, told_then_gone}
 use Rattle.zq_gateway.proofs.Due.{due_of_keys, gathered_due, gathered_lacks, gathered_left, told_answered, told_left}
 use Rattle.zq_gateway.proofs.Networked.{network_fits}
 use Rattle.zq_gateway.proofs.Reached.{reached_enough}
@@ -73,6 +79,14 @@ put_network-requires-clause-gone c h there =
     let same : c.self.inside.hats ≡ c.args.self.now.core.hats = ap (λ (x : State). x.core.hats) c.self.view_is in
     ap (λ (ids : List Zid). without_routers ids h.entries) c.as_slice-in-Ok-let_told_out.ensures ∙ c.requires.gone h (ap (hat_at c.args.region) (sym same) ∙ there)
 
+pub release_each-requires : goal.release_each-requires
+release_each-requires c =
+    let s : State = c.args.self.now in
+    let r = c.args.region in
+    let there : (h : HatState) × (hat_at r s.core.hats ≡ Some h) = some_of (hat_at r s.core.hats) c.requires.there in
+    let left = c.put_network.ensures ∙ ap (change_hat r (networked c.args.net)) (ap (λ (x : State). x.core.hats) c.self.view_is) in
+    ap (λ x. is_some (hat_at r x)) left ∙ ap is_some (hat_here r there.0 (networked c.args.net) s.core.hats there.1)
+
 pub returns-in-Ok-let_told_out : goal.returns-in-Ok-let_told_out
 unfolding is_asking
 returns-in-Ok-let_told_out c =
@@ -89,15 +103,22 @@ returns-in-Ok-let_told_out c =
     let ts = told_with (ears_of i.ears) dues told in
     let are = gathered_due s.core t refl (ears_of i.ears) dues told g in
     let last = c.in-Ok.all in
-    let handed =
+    let first =
     ap (λ (f : List Handed). behind f (tell (accepted s.core t) (map from_hat (in_order ts)) s.names)) (sym c.new-none.ensures)
     ∙ ap (λ (n : NamingState). behind c.new-none.result (tell (accepted s.core t) (map from_hat (in_order ts)) n)) (sym (ap (λ (x : State). x.names) v))
     ∙ c.in-Ok.ensures.ok (accepted s.core t) (sym (ap (λ (x : State). x.core.faces) v)) (λ f k. ap (λ (x : State). has_keyed f k x.core.interests) v) in
     let left = c.put_network.ensures ∙ ap (change_hat r (networked c.args.net)) (ap (λ (x : State). x.core.hats) v) in
+    let there : (h : HatState) × (hat_at r s.core.hats ≡ Some h) = some_of (hat_at r s.core.hats) c.requires.there in
+    let changes = change_hat r (networked c.args.net) s.core.hats in
+    let keys = losing c.args.net there.0 in
+    let gone = c.release_each.ensures ∙ (λ j. fold (without_gone r (left j)) c.tell_all.new.names ((c.as_slice-in-Ok-let_told_out-2.ensures ∙ c.requires.keys there.0 there.1) j)) in
+    let handed =
+    told_then_gone (accepted s.core t) (map from_hat (in_order ts)) r changes [] last.handed keys s.names c.tell_all.new.names c.release_each.new.names (renamed s t) first gone
+    (network_renamed s c.requires.reached r there.0 there.1 changes c.args.net refl) in
     let kept = c.done_telling.ensures.ears ∙ ap (put_plan last.plan) c.tell_all.ensures.ears ∙ gathered_left s.core t refl (ears_of i.ears) dues told g last.plan c.in-Ok.ensures.plan in
-    let plain = told_answered s c.requires.reached t refl fits ts are last.handed c.tell_all.new.names handed refl in
-    let stays = told_left s c.requires.reached t refl fits ts are last.handed c.tell_all.new.names handed in
-    let w : State = record { core = accepted s.core t; names = c.tell_all.new.names; gates = s.gates } in
+    let plain = told_answered s c.requires.reached t refl fits ts are last.handed c.release_each.new.names handed refl in
+    let stays = told_left s c.requires.reached t refl fits ts are last.handed c.release_each.new.names handed in
+    let w : State = record { core = accepted s.core t; names = c.release_each.new.names; gates = s.gates } in
     let out_same = ap (λ (x : State). x.gates) v in
     let es = c.in-Ok-let_told_out.exits.items in
     let after = c.let_told_out.new.gates in
@@ -107,7 +128,7 @@ returns-in-Ok-let_told_out c =
       after =
           (λ j. record {
             core = record { config = (v j).core.config; faces = (v j).core.faces; next_face = (v j).core.next_face; hats = left j; tables = (v j).core.tables; queries = (v j).core.queries; interests = (v j).core.interests; ears = kept j };
-            names = c.tell_all.new.names;
+            names = c.release_each.new.names;
             gates = c.done_telling.ensures.gates j;
           })
           ∙ sym (stays_out s t refl outcome.Done last.handed w plain stays i.gates out_same es after out);

@@ -1,9 +1,8 @@
-use Rattle.std.proofs.Common.{◌≡◌, ◌∙◌, refl, sym, ap, Err, subst, [], map, Option, None, Some, not}
+use Rattle.std.proofs.Common.{◌≡◌, ◌∙◌, refl, sym, ap, Err, subst, [], map, None, Some}
 use Rattle.std.specs.List.{AllByRecursion}
-use Rattle.std.specs.Option.{is_none, is_some}
 use Rattle.zq_strategy.specs.Tellings.{in_order}
 use Rattle.zq_strategy.specs.Kept.{registered}
-use Rattle.zq_tables.specs.Naming.{NamingState, change_naming, face_queryables, text_at, with_queryable}
+use Rattle.zq_tables.specs.Naming.{NamingState, change_naming, with_queryable}
 use Rattle.zq_tables.specs.declared.resolved.Resolved.TheVariants as said
 use Rattle.zq_interests.specs.Interests.{has_keyed}
 use Rattle.zq_told.specs.Rooms.{ears_of}
@@ -17,9 +16,8 @@ use Rattle.zq_machine.specs.TextCalls.{declaring}
 use Rattle.zq_machine.specs.Writing.{Told, tell}
 use Rattle.zq_machine.proofs.Asks.{is_asking}
 use Rattle.zq_egress.specs.Gone.{IsTold}
-use Rattle.zq_egress.specs.Neighbours.{taken_back, told_with}
+use Rattle.zq_egress.specs.Neighbours.{told_with}
 use Rattle.zq_egress.specs.Telling.{behind}
-use Rattle.zq_egress.proofs.Held.{put_back}
 use Rattle.zq_dispatcher.specs.Seats.{seats}
 use Rattle.zq_gateway.specs.Gathering.{Gathers}
 use Rattle.zq_gateway.proofs.Due.{changed_home, due_of_keys, gathered_due, gathered_lacks, gathered_left, only_fits, only_lacks, refused_answered, refused_left, told_answered, told_left}
@@ -27,8 +25,8 @@ use Rattle.zq_gateway.proofs.GoneOut.{each_told, goes_out, stays_out}
 use Rattle.zq_gateway.proofs.Reached.{reached_seated}
 use Rattle.zq_gateway.proofs.tables.Tables.put_queryable.Goals as goal
 
-pub hold_and_tell-requires : goal.hold_and_tell-requires
-hold_and_tell-requires c enough =
+pub hold_and_tell-requires-clause-keys : goal.hold_and_tell-requires-clause-keys
+hold_and_tell-requires-clause-keys c enough =
     let s : State = c.args.self.now in
     let i = c.self.inside in
     let found = c.requires.found in
@@ -98,7 +96,7 @@ returns-in-Ok-register_told c =
     let fits = only_fits s.core t c.requires.ids (sym (gathered_lacks s.core t refl (ears_of i.ears) dues told g) ∙ c.in-Ok.ensures.free) in
     let ts = told_with (ears_of i.ears) dues told in
     let are = gathered_due s.core t refl (ears_of i.ears) dues told g in
-    let all = c.in-Ok.all in
+    let all = c.in-Ok.all.told in
     let handed =
     ap (λ (n : NamingState). behind [] (tell (accepted s.core t) (map from_hat (in_order ts)) (change_naming face.0 (with_queryable id key) n))) (sym (ap (λ (x : State). x.names) v))
     ∙ c.in-Ok.ensures.ok (accepted s.core t) (sym (ap (λ (x : State). x.core.faces) v)) (λ f k. ap (λ (x : State). has_keyed f k x.core.interests) v) in
@@ -123,26 +121,10 @@ returns-in-Ok-register_told c =
       err = tt;
     }
 
--- whether a queryable is held afresh
-not_some : {X : Type 0} (o : Option X) → not (is_some o) ≡ is_none o
-not_some None = refl
-not_some (Some x) = refl
-
 pub returns : goal.returns
 returns c =
-    let s : State = c.args.self.now in
-    let i = c.self.inside in
     let v = c.self.view_is in
-    let face = c.args.face.0 in
-    let id = c.args.id in
-    let key = c.args.key.now in
-    let held : c.holds_queryable-fresh.result ≡ is_some (text_at id (face_queryables face s.names)) = c.holds_queryable-fresh.ensures ∙ ap (λ (x : State). is_some (text_at id (face_queryables face x.names))) v in
-    let fresh = ap not held ∙ not_some (text_at id (face_queryables face s.names)) in
-    let names = ap (λ (x : State). x.names) v in
-    let back : c.take_back_held.new.names ≡ s.names =
-    c.take_back_held.ensures.names
-    ∙ ap (taken_back face id (not c.holds_queryable-fresh.result)) (c.in-Ok.ensures.back ∙ ap (change_naming face (with_queryable id key)) names)
-    ∙ put_back face id key (not c.holds_queryable-fresh.result) s.names fresh in
+    let back = c.take_back_held.ensures.names ∙ c.in-Ok.ensures.back ∙ ap (λ (x : State). x.names) v in
     let left = c.in-Err.ensures.no_hats ∙ ap (λ (x : State). x.core.hats) v in
     let gates_back = c.in-Err.ensures.no_gates ∙ ap (λ (x : State). x.gates) v in
     let kept = c.take_back_held.ensures.ears ∙ c.hold_and_tell.ensures.ears ∙ ap (λ (x : State). x.core.ears) v in

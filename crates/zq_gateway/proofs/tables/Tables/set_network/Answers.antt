@@ -17,6 +17,7 @@ use Rattle.zq_gateway.proofs.Seated.{each_of, reached_in_place}
 use Rattle.zq_gateway.specs.Gathering.{Gathers}
 use Rattle.zq_gateway.specs.Making.{IsReached, Settles}
 use Rattle.std.specs.Option.{is_some, option_map_or}
+use Rattle.std.proofs.lemmas.Option.{same_Some}
 use Rattle.zq_gateway.proofs.Elsewhere.{beside, beside_at}
 use Rattle.zq_gateway.proofs.Networked.{network_fits, network_gathers, network_keys}
 use Rattle.zq_gateway.proofs.tables.Tables.set_network.Goals as goal
@@ -42,6 +43,18 @@ put_network-requires-clause-there c =
     let same : i.hats ≡ c.args.self.now.core.hats = ap (λ (x : State). x.core.hats) c.self.view_is in
     let there : hat_at c.args.region i.hats ≡ Some c.in-Some.hat.now = sym c.hat_at.ensures ∙ ap option_copied c.in-Some.is in
     ap is_some (ap (hat_at c.args.region) (sym same) ∙ there)
+
+pub put_network-requires-clause-keys : goal.put_network-requires-clause-keys
+put_network-requires-clause-keys c h at =
+    let s : State = c.args.self.now in
+    let i = c.self.inside in
+    let r = c.args.region in
+    let net : Network = c.in_ok-net.net in
+    let hat : HatState = c.in-Some.hat.now in
+    let same : i.hats ≡ s.core.hats = ap (λ (x : State). x.core.hats) c.self.view_is in
+    let there : hat_at r i.hats ≡ Some hat = sym c.hat_at.ensures ∙ ap option_copied c.in-Some.is in
+    let lost : c.in_ok-keys.keys ≡ losing net hat = c.in_ok-keys.ensures ∙ ap (λ (ids : List Zid). keys_by (is_one_of ids) hat.entries) c.as_slice-2.ensures ∙ c.in_ok-gone.ensures.losing in
+    lost ∙ ap (losing net) (same_Some _ _ (sym there ∙ ap (hat_at r) same ∙ at)) ∙ ap (λ (n : Network). losing n h) (sym c.in_ok-net-2.ensures.net)
 
 pub put_network-requires-clause-found : goal.put_network-requires-clause-found
 put_network-requires-clause-found c =

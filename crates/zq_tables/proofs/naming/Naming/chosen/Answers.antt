@@ -10,7 +10,7 @@ use Rattle.zq_tables.proofs.naming.Naming.chosen.Goals as goal
 pub chosen_key-requires : goal.chosen_key-requires
 chosen_key-requires c =
     let L : FaceIds → Type 0 = AreLive c.self.inside.names in
-    subst L (sym c.numbers.ensures) (live_at c.self.inside.names c.self.inside.faces.entries c.args.face.0 c.in-Some.nodes.now c.self.invariant (sym c.in-Some.ensures.value))
+    subst L (sym c.numbers.ensures) (live_at c.self.inside.names c.self.inside.faces.entries c.self.inside.rows.entries c.args.face.0 c.in-Some.nodes.now c.self.invariant (sym c.in-Some.ensures.value))
 
 pub returns-in-Some : goal.returns-in-Some
 returns-in-Some c =
@@ -19,7 +19,7 @@ returns-in-Some c =
     let nodes = c.in-Some.nodes.now in
     let S : FaceNaming → Type 0 = λ (n : FaceNaming). IfOk c.chosen_key.result (λ d. d ≡ declared_key n c.args.local c.args.may c.args.text.now) in
     let B : FaceIds → Type 0 = λ (f : FaceIds). IfOk c.chosen_key.result (λ d. d ≡ declared_key (texts_of names f) c.args.local c.args.may c.args.text.now) in
-    subst S (sym (face_there names c.self.inside.faces.entries face nodes (sym c.in-Some.ensures.value)) ∙ ap (face_naming face) c.self.view_is) (subst B c.numbers.ensures c.chosen_key.ensures)
+    subst S (sym (face_there names c.self.inside.faces.entries c.self.inside.rows.entries face nodes (sym c.in-Some.ensures.value)) ∙ ap (face_naming face) c.self.view_is) (subst B c.numbers.ensures c.chosen_key.ensures)
 
 empty_texts : (names : List NameEntry) (f : FaceIds) → f.theirs ≡ [] → f.ours ≡ [] → texts_of names f ≡ no_names
 empty_texts names f theirs ours = rw (theirs, ours) refl
@@ -30,4 +30,4 @@ returns-in-None c =
     let face = c.args.face.0 in
     let names = c.self.inside.names in
     let S : FaceNaming → Type 0 = λ (n : FaceNaming). IfOk c.chosen_key-in-None.result (λ d. d ≡ declared_key n c.args.local c.args.may c.args.text.now) in
-    subst S (empty_texts names c.new-none.result c.new-none.ensures.theirs c.new-none.ensures.ours ∙ sym (face_closed names c.self.inside.faces.entries face (sym c.in-None.ensures.value)) ∙ ap (face_naming face) c.self.view_is) c.chosen_key-in-None.ensures
+    subst S (empty_texts names c.new-none.result c.new-none.ensures.theirs c.new-none.ensures.ours ∙ sym (face_closed names c.self.inside.faces.entries c.self.inside.rows.entries face (sym c.in-None.ensures.value)) ∙ ap (face_naming face) c.self.view_is) c.chosen_key-in-None.ensures

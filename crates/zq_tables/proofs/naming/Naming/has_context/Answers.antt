@@ -15,5 +15,5 @@ returns c =
     let A : List ℕ → Type 0 = λ (u : List ℕ). IfNone c.get_resource.result (Contains (texts names) u → ⊥) in
     let some : 0 < length t = grind (arith, nat_tests) in
     c.is_some.ensures
-    ∙ context_is names c.self.inside.faces.entries c.self.invariant c.get_resource.ensures.names c.get_resource.ensures.distinct t c.get_resource.result some (subst F whole c.get_resource.ensures.found) (subst A whole c.get_resource.ensures.absent)
+    ∙ context_is names c.self.inside.faces.entries c.self.inside.rows.entries c.self.invariant c.get_resource.ensures.names c.get_resource.ensures.distinct t c.get_resource.result some (subst F whole c.get_resource.ensures.found) (subst A whole c.get_resource.ensures.absent)
     ∙ ap (has_context t) c.self.view_is

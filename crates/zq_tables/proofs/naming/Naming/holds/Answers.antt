@@ -18,5 +18,5 @@ returns c =
     ∙ sym (some_map (λ (r : ResourceId). r.0) c.node_at.result)
     ∙ ap is_some c.node_at.ensures
     ∙ sym (some_map text _)
-    ∙ ap is_some (node_text h names c.self.inside.faces.entries face c.args.id)
+    ∙ ap is_some (node_text h names c.self.inside.faces.entries c.self.inside.rows.entries face c.args.id)
     ∙ ap (λ (s : NamingState). is_some (text_at c.args.id (held_keys h (face_keys face s)))) c.self.view_is

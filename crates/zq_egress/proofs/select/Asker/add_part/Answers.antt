@@ -1,0 +1,9 @@
+use Rattle.std.proofs.Common.{◌∙◌, ap, rules}
+use Rattle.zq_machine.specs.Selecting.{passes}
+use Rattle.zq_egress.specs.Askers.{asker_of}
+use Rattle.zq_egress.proofs.Lasting.{filter_lasts}
+use Rattle.zq_egress.proofs.select.Asker.add_part.Goals as goal
+
+pub take_final_route-requires : goal.take_final_route-requires
+take_final_route-requires c κs within =
+    (filter_lasts κs.1.0 κs.1.1.0 κs.1.1.1.0 within.0 within.1.0, (search rules, λ offer answer h. h.says.met ∙ ap (passes (asker_of c.args.self.now)) h.shows))
