@@ -1,6 +1,6 @@
 -- Storages by the numbers of their faces.
 use Rattle.std.proofs.Common.{◌≡◌, ◌∙◌, ℕ, ◌+◌, ◌-◌, ◌<◌, ◌≤◌, Bool, true, false, cond, List, [], ◌∷◌, Option, Some, None, refl, sym, ap, length, arith}
-use Rattle.std.specs.Prelude.{◌==◌, ◌&&◌, position}
+use Rattle.std.specs.Prelude.{◌==◌, position}
 use Rattle.std.specs.List.{position_from}
 use Rattle.std.proofs.lemmas.Bool.{and_parts}
 use Rattle.std.proofs.lemmas.Iterator.Adapters.{position_from-zero}

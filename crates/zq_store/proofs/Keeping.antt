@@ -6,17 +6,16 @@ use Rattle.std.specs.List.{list_all}
 use Rattle.std.proofs.lemmas.Bool.{and_parts}
 use Rattle.std.proofs.lemmas.List.{length-append, length-set}
 use Rattle.zq_index.specs.Texts.{text_cmp}
-use Rattle.zq_key.specs.Key.{includes, is_plain}
+use Rattle.zq_key.specs.Key.{includes, is_key, is_plain}
+use Rattle.zq_local.specs.Seated.{IsSeated}
 use Rattle.zq_machine.specs.Configs.{Settings}
-use Rattle.zq_machine.specs.State.{State}
-use Rattle.zq_message.specs.declared.message.QueryTarget.{QueryTarget}
 use Rattle.zq_store.specs.Held.{Change, delete, put}
-use Rattle.zq_store.specs.Stores.{Stored, change_at, change_by, changed_store, fits_store, holds_own, new_store, numbered, refusal_at}
-use Rattle.zq_store.specs.Bus.{BusState, IsBus, added, free_face, new_bus, put_refusal, with_change}
-use Rattle.zq_store.specs.Getting.{after_get}
+use Rattle.zq_store.specs.Stores.{Stored, change_by, changed_store, holds_own, new_store, numbered, refusal_at}
+use Rattle.zq_store.specs.Bus.{BusState, IsBus, add_refusal, added, free_face, new_bus, new_refusal, put_refusal, with_change}
 use Rattle.zq_store.specs.declared.stores.PutRefusal.{PutRefusal}
 use Rattle.zq_store.specs.declared.stores.PutRefusal.TheVariants as unput
 use Rattle.zq_store.proofs.Plainness.{all_put, all_removed, both}
+use Rattle.zq_store.proofs.Served.{added_served, new_served, seats_changed}
 
 -- ---- lists of storages
 
@@ -91,21 +90,23 @@ changed_keeps b store c own is = at (slice_get b.stores store) refl
       next = is.next ∙ ap (λ n. b.asker.0 + 1 + n) (sym (length-set b.stores store (changed_store c s)));
       faces = numbered_changed (b.asker.0 + 1) b.stores store c s there is.faces;
       held = own_changed b.stores store c s there (own s there) is.held;
+      served = λ e. subst (λ l. IsSeated b.asker.0 l b.next_request b.next_reply b.gateway) (sym (seats_changed store c b.stores (Some s) there)) (is.served e);
     }
 
 -- ---- the calls
 
-pub new_keeps : (config : Settings) → IsBus (new_bus config)
-new_keeps config = record { next = omega arith; faces = refl; held = refl }
+pub new_keeps : (config : Settings) → new_refusal config ≡ None → IsBus (new_bus config)
+new_keeps config none = record { next = omega arith; faces = refl; held = refl; served = λ e. new_served config none }
 
-pub added_keeps : (key : List ℕ) (complete : Bool) (b : BusState) → IsBus b → IsBus (added key complete b)
-added_keeps key complete b is =
+pub added_keeps : (key : List ℕ) (complete : Bool) (b : BusState) → IsBus b → add_refusal b ≡ None → is_key key ≡ true → IsBus (added key complete b)
+added_keeps key complete b is none keyed =
     let one = new_store key (free_face b) complete in
     let longer = length-append b.stores (one ∷ []) in
     record {
       next = ap (λ n. n + 1) is.next ∙ more (b.asker.0 + 1) (length b.stores) ∙ ap (λ n. b.asker.0 + 1 + n) (sym longer);
       faces = numbered_put (b.asker.0 + 1) b.stores one is.faces is.next;
       held = own_put b.stores one is.held refl;
+      served = λ e. added_served key complete b is.next (is.served e) none keyed;
     }
   where
     more : (a n : ℕ) → (a + n) + 1 ≡ a + (n + 1)
@@ -116,9 +117,6 @@ put_keeps store key value b free is = changed_keeps b store (put key value) (λ 
 
 pub delete_keeps : (store : ℕ) (key : List ℕ) (b : BusState) → IsBus b → IsBus (with_change store (delete key) b)
 delete_keeps store key b is = changed_keeps b store (delete key) (λ s there own. holds_less s key own) is
-
-pub get_keeps : (b : BusState) (key : List ℕ) (target : QueryTarget) (now : ℕ) → IsBus b → IsBus (after_get b key target now)
-get_keeps b key target now is = record { next = is.next; faces = is.faces; held = is.held }
 
 -- a change that was made, or refused
 pub changed_goes : {X : Type 0} (r : Result X PutRefusal) (b : BusState) (new there : List Stored) (o : Option PutRefusal)

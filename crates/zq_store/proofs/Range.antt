@@ -1,11 +1,9 @@
 -- Where the plain keys lie that may meet a key: behind its first chunks, if these are plain.
-use Rattle.std.proofs.Common.{◌≡◌, ◌∙◌, ℕ, ◌==◌, Bool, true, false, not, cond, List, [], ◌∷◌, ◌++◌, refl, sym, ap, subst, map, filter, append_assoc, arith}
+use Rattle.std.proofs.Common.{◌≡◌, ◌∙◌, ℕ, ◌==◌, Bool, true, false, cond, List, [], ◌∷◌, ◌++◌, refl, sym, ap, subst, map, filter, append_assoc, arith}
 use Rattle.std.specs.Prelude.{◌&&◌, String}
 use Rattle.std.specs.List.{join_with_byte, list_all, onto_first}
-use Rattle.std.specs.Str.{bytes_eq}
-use Rattle.std.specs.BTreeMap.Range.{entries_between, range_contains}
-use Rattle.std.specs.Cmp.Lexicographic.{slice_cmp}
-use Rattle.std.specs.Ordering.{is_le, nat_cmp, ordering_then}
+use Rattle.std.specs.BTreeMap.Range.{entries_between}
+use Rattle.std.specs.Ordering.{is_le, nat_cmp}
 use Rattle.std.specs.String.{string_bytes, string_cmp}
 use Rattle.std.specs.declared.alloc.Global.{Global}
 use Rattle.std.specs.declared.cmp.Ordering.{Ordering}
@@ -20,7 +18,7 @@ use Rattle.zq_key.specs.Match.{meets_by}
 use Rattle.zq_key.specs.Key.{chunk_meets, chunks, intersects, is_plain, is_plain_chunk, is_stars, is_verbatim}
 use Rattle.zq_key.proofs.Apart.{HasFirst, has_first}
 use Rattle.zq_key.proofs.Plain.{chunk_facts, intersects-plain, plain-all, plain-chunk_meets, plain-stars}
-use Rattle.zq_store.specs.Held.{Pairs, are_plain, is_plain_pair, meeting, meets_key}
+use Rattle.zq_store.specs.Held.{Pairs, are_plain, meeting}
 use Rattle.zq_store.specs.Pair.{pair_of}
 use Rattle.zq_store.specs.declared.held.Pair.{Pair}
 use Rattle.zq_store.specs.Span.{IsSpan, lies_in}

@@ -3,13 +3,15 @@ use Rattle.std.proofs.Common.{◌≡◌, ◌∙◌, refl, sym, ap, subst, ℕ, z
 use Rattle.std.specs.Prelude.{◌==◌, slice_get, slice_set}
 use Rattle.zq_key.specs.Key.{is_key}
 use Rattle.zq_machine.specs.Configs.{Settings, has_local}
+use Rattle.zq_machine.specs.Machine.{state_after}
+use Rattle.zq_machine.specs.State.{State}
 use Rattle.zq_local.specs.Picking.{Seat}
 use Rattle.zq_local.specs.Seated.{IsSeated}
 use Rattle.zq_local.proofs.Seating.{joined_seated, new_seated}
 use Rattle.zq_store.specs.Held.{Change}
 use Rattle.zq_store.specs.Stores.{Stored, change_by, changed_store, new_store}
 use Rattle.zq_store.specs.Seats.{seats, seats_from}
-use Rattle.zq_store.specs.Bus.{BusState, IsServed, add_refusal, added, free_face, new_bus, new_refusal, with_change}
+use Rattle.zq_store.specs.Bus.{BusState, IsServed, add_refusal, added, free_face, join_calls, new_bus, new_refusal}
 use Rattle.zq_store.specs.declared.bus.BusRefusal.TheVariants as refusal
 
 -- ---- refusals
@@ -57,6 +59,16 @@ module _ (key : List ℕ) (complete : Bool) (b : BusState) (next : b.next_face �
       subst (λ l. IsSeated b.asker.0 l b.next_request b.next_reply (added key complete b).gateway) (sym (seats_more 0 (length b.stores) b.stores new (omega arith)))
       (joined_seated b.asker.0 (seats b.stores) b.next_request b.next_reply b.gateway served b.next_face place fits (seat_of (length b.stores) new) refl keyed)
 
+-- ---- what the calls of a storage that joins leave
+pub unspent : (b : BusState) → add_refusal b ≡ None → b.spent ≡ false
+unspent b none = (add_parts b.spent (b.next_face + 1 == 2 ^ 32) none).0
+
+pub joined : (key : List ℕ) (complete : Bool) (b : BusState) (gateway : State) (stores : List Stored)
+    → gateway ≡ state_after b.gateway (join_calls b.gateway.core.config.zid (free_face b) key complete) → stores ≡ b.stores ++ new_store key (free_face b) complete ∷ [] → add_refusal b ≡ None
+    → ◌≡◌ {A = BusState} (record { gateway = gateway; asker = b.asker; next_face = b.next_face + 1; next_request = b.next_request; next_reply = b.next_reply; stores = stores; spent = false }) (added key complete b)
+joined key complete b gateway stores after more none =
+    λ j. record { gateway = after j; asker = b.asker; next_face = b.next_face + 1; next_request = b.next_request; next_reply = b.next_reply; stores = more j; spent = sym (unspent b none) j }
+
 -- ---- puts and deletes
 seats_set : (n i : ℕ) (xs : List Stored) (c : Change) (s : Stored) → slice_get xs i ≡ Some s → seats_from n (slice_set xs i (changed_store c s)) ≡ seats_from n xs
 seats_set n i [] c s there = refl
@@ -68,6 +80,3 @@ seats_set n (suc i) (x ∷ xs) c s there = ap (λ l. seat_of n x ∷ l) (seats_s
 pub seats_changed : (i : ℕ) (c : Change) (xs : List Stored) (o : Option Stored) → slice_get xs i ≡ o → seats (change_by i c xs o) ≡ seats xs
 seats_changed i c xs None there = refl
 seats_changed i c xs (Some s) there = seats_set 0 i xs c s there
-
-pub changed_served : (i : ℕ) (c : Change) (b : BusState) → IsServed b → IsServed (with_change i c b)
-changed_served i c b served = subst (λ l. IsSeated b.asker.0 l b.next_request b.next_reply b.gateway) (sym (seats_changed i c b.stores (slice_get b.stores i) refl)) served

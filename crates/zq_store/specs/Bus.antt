@@ -93,15 +93,16 @@ with_change store c b = record b { stores = change_at store c b.stores }
 
 -- ---- what is kept
 
--- what holds of a bus besides, while it is not spent: the asker and the storages are the faces of the gateway, nothing is open, and these are the next numbers
+-- the asker and the storages are the faces of the gateway, nothing is open, and these are the next numbers
 abbrev pub IsServed : BusState → Type 0
 IsServed b = IsSeated b.asker.0 (seats b.stores) b.next_request b.next_reply b.gateway
 
--- what holds of a bus between two calls, spent or not
+-- what holds of a bus between two calls: its storages are numbered by their faces and hold what fits them, and unless it is spent it is served
 pub record IsBus (b : BusState) : Type 0 where
   pub next : b.next_face ≡ b.asker.0 + 1 + length b.stores
   pub faces : numbered (b.asker.0 + 1) b.stores ≡ true
   pub held : list_all holds_own b.stores ≡ true
+  pub served : b.spent ≡ false → IsServed b
 
 -- a call found no memory: the bus is spent, and holds what it held
 pub record IsSpent (old new : BusState) : Type 0 where

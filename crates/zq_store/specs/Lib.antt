@@ -11,4 +11,3 @@ pub mod Lines
 pub mod Outcomes
 pub mod Printing
 pub mod Running
-pub mod Promises

@@ -1,5 +1,5 @@
 //! The calls of a get.
-ghost use Rattle.std.specs.Prelude.{◌≡◌, ◌+◌, ◌++◌, ◌<◌, ◌^◌, IfOk, IfSome, OnOk, length, map};
+ghost use Rattle.std.specs.Prelude.{◌≡◌, ◌+◌, ◌++◌, ◌<◌, ◌^◌, IfOk, OnOk, length, map};
 ghost use Rattle.zq_tables.specs.Naming.{plain};
 ghost use Rattle.zq_machine.specs.declared.call.Call.TheVariants as call;
 ghost use Rattle.zq_machine.specs.Machine.{after, state_after, step, steps_from};
@@ -171,14 +171,6 @@ pub fn end_all(
         end(gateway, handed, *one)?;
     }
     Ok(())
-}
-
-/// The number that follows so many from the first one on, if they all are numbers.
-pub fn number_after(first: u64, count: usize) -> Option<u64>
-    ensures value { IfSome result (λ n. n ≡ first + count) }
-    ensures fits { IfSome result (λ _. first + count < 2 ^ 64) }
-{
-    first.checked_add(count as u64)
 }
 
 /// The replies that these answers are.

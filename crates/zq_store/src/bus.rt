@@ -1,14 +1,15 @@
 //! A gateway with an asker and storages.
-ghost use Rattle.std.specs.Prelude.{◌≡◌, ◌+◌, ◌++◌, ◌∷◌, ◌<◌, ◌^◌, [], None, IfOk, IfErr, IfSome, IsTrue, Err, OnOk, OnErr, length};
+ghost use Rattle.std.specs.Prelude.{◌≡◌, ◌+◌, ◌++◌, ◌∷◌, ◌<◌, ◌^◌, [], None, IfOk, IfErr, IfSome, IsTrue, Err, OnOk, OnErr, false, length};
 ghost use Rattle.std.specs.Result.{is_ok};
 ghost use Rattle.zq_index.specs.Texts.{at_text};
-ghost use Rattle.zq_store.specs.Bus.{IsSpent, add_refusal, added, new_bus, new_refusal, put_refusal, with_change};
+ghost use Rattle.zq_store.specs.Answered.{IsAnswered, meeting_replies};
+ghost use Rattle.zq_store.specs.Bus.{IsServed, IsSpent, add_refusal, added, new_bus, new_refusal, put_refusal, with_change};
 ghost use Rattle.zq_store.specs.Getting.{after_get, get_refusal, got_of};
 ghost use Rattle.zq_store.specs.Held.{delete, put};
 ghost use Rattle.zq_store.specs.Stores.{held_at};
 
 use crate::answers::{answers_of, asked_of};
-use crate::asking::{end_all, number_after, replies_of, reply_all, request};
+use crate::asking::{end_all, replies_of, reply_all, request};
 use crate::got::{Got, StoreId};
 use crate::joining::{join, open_local};
 use crate::room::has_room;
@@ -77,9 +78,9 @@ impl Model for Bus {
 impl Bus {
     /// A bus over a new gateway, with its asker. `NoLocal` where the configuration has no Local;
     /// `NoFreeId` where no face can be opened.
-    #[tactic(auto, using(crate::proofs::Keeping::new_keeps))]
     pub fn new(alloc: Global, config: &Config) -> Result<Bus, BusRefusal>
         ensures ok { IfOk result (λ b. b ≡ new_bus config.now) }
+        ensures served { IfOk result (λ b. IsServed b) }
         ensures refused { IfSome (new_refusal config.now) (λ e. result ≡ Err e) }
         ensures memory { new_refusal config.now ≡ None → IfErr result (λ e. e ≡ BusRefusal.OutOfMemory) }
     {
@@ -108,18 +109,23 @@ impl Bus {
         })
     }
 
-    /// A storage joins at the next face.
+    /// A storage joins at the next face. The bus is spent while it is amid the calls.
     fn join(&mut self, key: &Key, complete: bool) -> Result<StoreId, OutOfMemory>
-        requires { self.old.next_face + 1 < 2 ^ 32 }
+        requires free { add_refusal self.old ≡ None }
+        requires room { self.old.next_face + 1 < 2 ^ 32 }
         ensures ok { IfOk result (λ s. s.0 ≡ length self.old.stores) }
         ensures new { OnOk result (self.new ≡ added key.now complete self.old) }
-        ensures err { OnErr result (self.new.stores ≡ self.old.stores) }
+        ensures served { OnOk result (IsServed self.new) }
+        ensures err { OnErr result (IsSpent self.old self.new) }
     {
+        let _text = key.as_str();
+        self.spent = true;
         let face = FaceId(self.next_face);
         let storage = join(self.alloc, &mut self.gateway, face, key, complete)?;
         let number = self.stores.len() as u32;
         self.stores.push(storage)?;
         self.next_face += 1;
+        self.spent = false;
         Ok(StoreId(number))
     }
 
@@ -128,6 +134,7 @@ impl Bus {
     pub fn add(&mut self, key: &Key, complete: bool) -> Result<StoreId, BusRefusal>
         ensures ok { IfOk result (λ s. s.0 ≡ length self.old.stores) }
         ensures new { OnOk result (self.new ≡ added key.now complete self.old) }
+        ensures served { OnOk result (IsServed self.new) }
         ensures refused { IfSome (add_refusal self.old) (λ e. (result ≡ Err e) × (self.new ≡ self.old)) }
         ensures memory { add_refusal self.old ≡ None → IfErr result (λ e. (e ≡ BusRefusal.OutOfMemory) × IsSpent self.old self.new) }
     {
@@ -139,10 +146,7 @@ impl Bus {
         }
         match self.join(key, complete) {
             Ok(store) => Ok(store),
-            Err(_) => {
-                self.spent = true;
-                Err(BusRefusal::OutOfMemory)
-            }
+            Err(_) => Err(BusRefusal::OutOfMemory),
         }
     }
 
@@ -160,6 +164,7 @@ impl Bus {
         ensures refused { IfSome (put_refusal store.0 key.now self.old) (λ e. result ≡ Err e) }
         ensures memory { put_refusal store.0 key.now self.old ≡ None → IfErr result (λ e. e ≡ PutRefusal.OutOfMemory) }
         ensures kept { OnErr result (self.new ≡ self.old) }
+        ensures served { self.old.spent ≡ false → IsServed self.new }
     {
         self.stores.put(store.0, key, value)
     }
@@ -172,26 +177,31 @@ impl Bus {
         ensures refused { IfSome (put_refusal store.0 key.now self.old) (λ e. result ≡ Err e) }
         ensures taken { put_refusal store.0 key.now self.old ≡ None → IsTrue (is_ok result) }
         ensures kept { OnErr result (self.new ≡ self.old) }
+        ensures served { self.old.spent ≡ false → IsServed self.new }
     {
         self.stores.delete(store.0, key)
     }
 
-    /// The calls of a get.
+    /// The calls of a get. The bus is spent while it is amid them.
     fn ask(&mut self, key: &Key, target: QueryTarget, now: u64) -> Result<Got, OutOfMemory>
-        requires { self.old.next_request + 1 < 2 ^ 64 }
+        requires free { get_refusal key.now self.old ≡ None }
+        requires room { self.old.next_request + 1 < 2 ^ 64 }
         ensures ok { IfOk result (λ g. g ≡ got_of self.old key.now target now) }
         ensures new { OnOk result (self.new ≡ after_get self.old key.now target now) }
-        ensures err { OnErr result (self.new.stores ≡ self.old.stores) }
+        ensures answered { IfOk result (λ g. IsAnswered key.now target self.old g) }
+        ensures all { target ≡ QueryTarget.All → IfOk result (λ g. g.replies ≡ meeting_replies key.now self.old.stores) }
+        ensures ended { OnOk result (IsServed self.new) }
+        ensures err { OnErr result (IsSpent self.old self.new) }
     {
         let alloc = self.alloc;
+        let _text = key.as_str();
+        self.spent = true;
         let mut handed = request(alloc, &mut self.gateway, self.asker, key, target, now)?;
         let stores = self.stores.as_slice();
         let asked = asked_of(alloc, stores, self.asker.0 + 1, handed.as_slice())?;
         let answers = answers_of(alloc, stores, asked.as_slice(), key)?;
         let first = self.next_reply;
-        let Some(next) = number_after(first, answers.len()) else {
-            return Err(OutOfMemory);
-        };
+        let next = first + answers.len() as u64;
         reply_all(
             alloc,
             &mut self.gateway,
@@ -203,16 +213,21 @@ impl Bus {
         let replies = replies_of(alloc, answers)?;
         self.next_request += 1;
         self.next_reply = next;
+        self.spent = false;
         Ok(Got { replies, handed })
     }
 
     /// Asks on the key at a moment, and brings what the storages that the gateway picks reply with, in its
     /// order: each its pairs that meet the key, by text. Each reply is reported as sent, and then each storage
-    /// ends. `NoFreeId` where no number is left for the request, or fewer for replies than there are pairs
-    /// that meet the key.
+    /// ends; the asker is handed these replies and then its one final, and nothing stays open. For the target
+    /// `All` the replies are all pairs, over all storages, that meet the key. `NoFreeId` where no number is
+    /// left for the request, or fewer for replies than there are pairs that meet the key.
     pub fn get(&mut self, key: &Key, target: QueryTarget, now: u64) -> Result<Got, BusRefusal>
         ensures ok { IfOk result (λ g. g ≡ got_of self.old key.now target now) }
         ensures new { OnOk result (self.new ≡ after_get self.old key.now target now) }
+        ensures answered { IfOk result (λ g. IsAnswered key.now target self.old g) }
+        ensures all { target ≡ QueryTarget.All → IfOk result (λ g. g.replies ≡ meeting_replies key.now self.old.stores) }
+        ensures ended { OnOk result (IsServed self.new) }
         ensures refused { IfSome (get_refusal key.now self.old) (λ e. (result ≡ Err e) × (self.new ≡ self.old)) }
         ensures memory { get_refusal key.now self.old ≡ None → IfErr result (λ e. (e ≡ BusRefusal.OutOfMemory) × IsSpent self.old self.new) }
     {
@@ -224,10 +239,7 @@ impl Bus {
         }
         match self.ask(key, target, now) {
             Ok(got) => Ok(got),
-            Err(_) => {
-                self.spent = true;
-                Err(BusRefusal::OutOfMemory)
-            }
+            Err(_) => Err(BusRefusal::OutOfMemory),
         }
     }
 }

@@ -238,6 +238,34 @@ fn sources(rt: HostRuntime) {
     assert!(rt; found::<Sourced>(rt.alloc()) == Ok([Some(2), Some(0)]));
 }
 
+// Whether the key of a queryable, another and the root's text have a context, and the first once the
+// queryable is withdrawn.
+struct Known;
+
+impl Trial for Known {
+    type Found = [bool; 4];
+
+    fn found(gateway: &mut Gateway, alloc: Global) -> [bool; 4] {
+        open_two(gateway, alloc);
+        let declared = gateway.has_context("k");
+        let _ = declares(
+            gateway,
+            DeclareBody::UndeclareQueryable { id: 1, wire: None },
+        );
+        [
+            declared,
+            gateway.has_context("x"),
+            gateway.has_context(""),
+            gateway.has_context("k"),
+        ]
+    }
+}
+
+#[test]
+fn contexts(rt: HostRuntime) {
+    assert!(rt; found::<Known>(rt.alloc()) == Ok([true, false, false, false]));
+}
+
 // What a request and its reply come to, and whether the target's final and two reports of the reply
 // hand the final to the asker.
 struct Answered;

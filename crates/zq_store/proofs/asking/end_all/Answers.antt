@@ -1,4 +1,4 @@
-use Rattle.std.proofs.Common.{◌≡◌, ◌∙◌, ◌++◌, ◌+◌, ap, sym, map, drop, arith}
+use Rattle.std.proofs.Common.{◌∙◌, ◌++◌, ◌+◌, map, drop, arith}
 use Rattle.zq_machine.specs.Machine.{state_after, steps_from}
 use Rattle.zq_store.specs.Getting.{end_call, handed_over}
 use Rattle.zq_store.proofs.Runs.{ended_after, ended_step}

@@ -1,5 +1,3 @@
-use Rattle.std.proofs.Common.{◌≡◌, ◌∙◌, ap, true}
-use Rattle.zq_key.specs.Key.{is_key}
 use Rattle.zq_store.proofs.Plainness.{plain_is_key}
 use Rattle.zq_store.proofs.held.push_pair.Goals as goal
 

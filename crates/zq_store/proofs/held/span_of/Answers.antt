@@ -1,4 +1,4 @@
-use Rattle.std.proofs.Common.{◌≡◌, ◌∙◌, ◌+◌, ◌++◌, ◌∷◌, [], drop, length, sym}
+use Rattle.std.proofs.Common.{◌∙◌, ◌+◌, ◌++◌, ◌∷◌, [], drop, length, sym}
 use Rattle.zq_store.proofs.Range.{span_alone, span_as, span_behind}
 use Rattle.zq_store.proofs.held.span_of.Goals as goal
 

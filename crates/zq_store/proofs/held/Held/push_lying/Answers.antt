@@ -1,9 +1,9 @@
-use Rattle.std.proofs.Common.{◌≡◌, ◌∙◌, ◌++◌, ap, map, sym}
+use Rattle.std.proofs.Common.{◌∙◌, ◌++◌, ap, map}
 use Rattle.std.specs.String.{string_bytes}
 use Rattle.zq_index.specs.Texts.{texts_of}
 use Rattle.zq_store.specs.Held.{are_plain, meeting}
 use Rattle.zq_store.specs.Pair.{pair_of}
-use Rattle.zq_store.proofs.Range.{lying, lying_plain, meeting_lying, texts_lying}
+use Rattle.zq_store.proofs.Range.{lying_plain, meeting_lying, texts_lying}
 use Rattle.zq_store.proofs.held.Held.push_lying.Goals as goal
 
 pub push_each-requires : goal.push_each-requires
