@@ -6,12 +6,12 @@ use zq::*;
 const HEAD: &str = "config 1 10000 north:client local\n";
 
 fn bad_lines() {
-    assert_eq!(Gateway::new("config 1 10000").err(), Some(Error::Fault(Fault::BadLine(1))));
-    assert_eq!(Gateway::new("config 1 10000 north:client local\npoll 0").err(), Some(Error::Fault(Fault::BadLine(2))));
+    assert_eq!(Gateway::new("config 1 10000").err(), Some(Error::Fault(Fault::BadHead(1))));
+    assert_eq!(Gateway::new("config 1 10000 north:client local\npoll 0").err(), Some(Error::Fault(Fault::BadHead(2))));
     assert_eq!(Bus::new("config 1 10000 north:client").err(), Some(BusError::Fault(Fault::NoLocal)));
     let mut gateway = Gateway::new(HEAD).unwrap();
     for line in [b"".as_slice(), b"opn", b"poll 0\n", b"poll 0\npoll 1", b"open local 10 client north \xff"] {
-        assert_eq!(gateway.call(line), Err(Fault::BadLine(0)));
+        assert_eq!(gateway.call(line), Err(Fault::BadLine));
     }
     assert_eq!(gateway.sent(3), Err(Error::Refused(Refusal::NotInFlight)));
     assert_eq!(gateway.next_deadline(), None);
@@ -63,7 +63,7 @@ fn bus() -> Result<(), BusError> {
     assert_eq!(bus.put(store, "demo/a", b"")?, Some(b"1".to_vec()));
     assert_eq!(bus.put(store, "other", b"1"), Err(BusError::Refused(BusRefusal::Outside)));
     assert_eq!(bus.put(9, "demo/a", b"1"), Err(BusError::Refused(BusRefusal::UnknownStore)));
-    assert_eq!(bus.put(store, "demo//a", b"1"), Err(BusError::Fault(Fault::BadLine(0))));
+    assert_eq!(bus.put(store, "demo//a", b"1"), Err(BusError::Fault(Fault::BadLine)));
     assert_eq!(bus.get("demo/*", Target::All)?, [("demo/a".to_string(), vec![])]);
     assert_eq!(bus.delete(store, "demo/a")?, Some(vec![]));
     Ok(())

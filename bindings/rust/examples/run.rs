@@ -24,12 +24,12 @@ fn run(script: &[u8], storages: bool, reads: bool, out: &mut Vec<u8>) -> Result<
     let heads = if storages { 0 } else { heads };
     let opened = if storages { Speaker::bus(LOAD) } else { Speaker::gateway(&lines[..heads].join(&b'\n')) };
     let mut speaker = match opened {
-        Err(Fault::BadLine(number)) => return Err(number),
+        Err(Fault::BadHead(number)) => return Err(number),
         other => other.expect("there is memory"),
     };
     for (number, line) in lines.iter().enumerate().skip(heads) {
         match speaker.call(line) {
-            Err(Fault::BadLine(_)) => return Err(number as u64 + 1),
+            Err(Fault::BadLine) => return Err(number as u64 + 1),
             print => out.extend_from_slice(print.expect("there is memory")),
         }
         if reads && !storages {

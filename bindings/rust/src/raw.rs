@@ -31,8 +31,10 @@ const NO_FREE_ID: u32 = 11;
 /// Why a line was not done, or nothing was opened. Where nothing else is said, nothing changed.
 #[derive(Clone, Copy, Debug, PartialEq, Eq)]
 pub enum Fault {
-    /// The line is no line of its kind, or has a newline in it; of a head, this line of it is bad.
-    BadLine(u64),
+    /// The line is no line of its kind, or has a newline in it.
+    BadLine,
+    /// This line of a head is bad, or it is none of a head.
+    BadHead(u64),
     /// No memory was found.
     NoMemory,
     /// The line was done, and no memory was found for its print: `print` gives it.
@@ -48,9 +50,9 @@ pub enum Fault {
 }
 
 impl Fault {
-    fn of(status: u32, bad_line: u64) -> Fault {
+    fn of(status: u32) -> Fault {
         match status {
-            BAD_LINE => Fault::BadLine(bad_line),
+            BAD_LINE => Fault::BadLine,
             NO_MEMORY => Fault::NoMemory,
             UNPRINTED => Fault::Unprinted,
             SPENT => Fault::Spent,
@@ -64,8 +66,8 @@ impl Fault {
 impl std::fmt::Display for Fault {
     fn fmt(&self, f: &mut std::fmt::Formatter<'_>) -> std::fmt::Result {
         match self {
-            Fault::BadLine(0) => f.write_str("bad line"),
-            Fault::BadLine(n) => write!(f, "bad line {n}"),
+            Fault::BadLine => f.write_str("bad line"),
+            Fault::BadHead(n) => write!(f, "bad line {n}"),
             Fault::NoMemory => f.write_str("no memory was found"),
             Fault::Unprinted => f.write_str("the line was done, and no memory was found for its print"),
             Fault::Spent => f.write_str("no memory was found amid a line of a bus, which joins and gets no more"),
@@ -97,7 +99,8 @@ impl Speaker {
         // SAFETY: pointer and length are of one slice; the handle has nothing, and nobody else has it.
         match unsafe { opens(head.as_ptr(), head.len(), &mut speaker.handle, &mut bad) } {
             OK => Ok(speaker),
-            status => Err(Fault::of(status, bad)),
+            BAD_LINE => Err(Fault::BadHead(bad)),
+            status => Err(Fault::of(status)),
         }
     }
 
@@ -139,7 +142,7 @@ impl Speaker {
                 self.print.resize(len.max(self.print.capacity()), 0);
                 self.print()
             }
-            status => Err(Fault::of(status, 0)),
+            status => Err(Fault::of(status)),
         }
     }
 
