@@ -1,3 +1,5 @@
+ghost use Rattle.zq_message.specs.Region.{HasIndex};
+
 use std::alloc::Global;
 use zq_given::wire;
 use zq_key::memory::OutOfMemory;
@@ -190,7 +192,9 @@ fn id_comes_out(names: &mut Naming, alloc: Global, row: &Row<'_>) -> Result<bool
 }
 
 // The region of a row.
-fn region_of(row: &Row<'_>) -> Region {
+fn region_of(row: &Row<'_>) -> Region
+    ensures { HasIndex result }
+{
     if row.face == FACE {
         Region::North
     } else {
