@@ -1,5 +1,5 @@
 -- What stands for keys by the names is what stands at the open faces and of the entries in the hats.
-use Rattle.std.proofs.Common.{◌≡◌, ◌∙◌, refl, sym, ap, ℕ, true, cond, List, [], ◌∷◌, ◌++◌, Option, Some, unwrap_or}
+use Rattle.std.proofs.Common.{◌≡◌, ◌∙◌, refl, sym, ap, subst, ℕ, true, cond, List, [], ◌∷◌, ◌++◌, Option, Some, unwrap_or}
 use Rattle.std.specs.BTreeMap.{is_at}
 use Rattle.std.specs.List.{AllByRecursion, flat_map, list_any}
 use Rattle.std.specs.Map.{keys_of, values_of}
@@ -16,7 +16,7 @@ use Rattle.zq_names.specs.Texts.{heads}
 use Rattle.zq_tables.specs.Naming.{FaceKeys, Names, all_texts, face_keys, face_queryables, face_texts, has_context, naming_at, no_keys}
 use Rattle.zq_machine.specs.Agreeing.{Agrees, keys_in}
 use Rattle.zq_machine.specs.State.{State, entry_rows, has_keys, hat_of, is_open}
-use Rattle.zq_machine.proofs.Agreed.{agrees}
+use Rattle.zq_machine.proofs.Agreed.{agree_always}
 use Rattle.zq_machine.proofs.Agreeing.{some_of}
 use Rattle.zq_gateway.specs.Contexts.{declared_by, entered_in, has_standing, standing_at, standing_texts}
 use Rattle.zq_gateway.specs.Making.{IsReached}
@@ -34,7 +34,7 @@ entries_flat (h ∷ hats) = by (keys_of h.1.entries) (entries_flat hats)
 
 module _ (s : State) (i : IsReached s) where
   agreed : Agrees s
-  agreed = agrees i.config s (reached_in_order s i)
+  agreed = subst Agrees (sym i.here) (agree_always i.config i.calls)
 
   -- the hat of an open face has its queryables
   declared_is : (face : ℕ) → is_open face s.core ≡ true → face_queryables face s.names ≡ declared_by s face

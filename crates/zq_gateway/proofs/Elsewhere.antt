@@ -25,9 +25,9 @@ use Rattle.zq_machine.specs.declared.call.Refusal.{Refusal}
 use Rattle.zq_machine.specs.declared.call.Refusal.TheVariants as refusal
 use Rattle.zq_machine.specs.declared.face.OpenFace.{OpenFace}
 use Rattle.zq_machine.specs.Deciding.{accepted, changed, interests_for, lacks_told, refusal_of}
-use Rattle.zq_machine.specs.Due.{heard, heard_as, heard_touched}
+use Rattle.zq_machine.specs.Due.{heard_as, heard_touched}
 use Rattle.zq_machine.specs.Neighbours.{looked_at}
-use Rattle.zq_machine.specs.State.{Core, State, at, clashes_in, face_region, hat_at, hat_of, is_open}
+use Rattle.zq_machine.specs.State.{Core, State, at, clashes_in, face_region, hat_at, hat_of}
 use Rattle.zq_machine.specs.TextCalls.{TextCall, closing, declaring}
 use Rattle.zq_machine.specs.Trees.{touched}
 use Rattle.zq_machine.proofs.Agreed.{InOrder}

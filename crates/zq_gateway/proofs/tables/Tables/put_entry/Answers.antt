@@ -1,7 +1,7 @@
-use Rattle.std.proofs.Common.{◌≡◌, ◌∙◌, refl, sym, ap, Err, subst, List, [], ◌∷◌, fold, map, Option, Some, true}
+use Rattle.std.proofs.Common.{◌≡◌, ◌∙◌, refl, sym, ap, Err, subst, [], ◌∷◌, map, Some}
 use Rattle.std.specs.List.{AllByRecursion}
 use Rattle.std.specs.Option.{is_some}
-use Rattle.zq_message.specs.Region.{HasIndex, region_index}
+use Rattle.zq_message.specs.Region.{region_index}
 use Rattle.zq_strategy.specs.Tellings.{in_order}
 use Rattle.zq_strategy.specs.State.{HatState}
 use Rattle.zq_tables.specs.Naming.{NamingState}
@@ -11,17 +11,15 @@ use Rattle.zq_told.specs.Telling.{put_plan}
 use Rattle.zq_machine.specs.declared.call.Refusal.TheVariants as refusal
 use Rattle.zq_machine.specs.declared.call.Outcome.TheVariants as outcome
 use Rattle.zq_machine.specs.Deciding.{accepted, renamed}
-use Rattle.zq_machine.specs.Handing.{Handed}
 use Rattle.zq_machine.specs.Messages.{from_hat}
 use Rattle.zq_machine.specs.State.{Core, State, change_hat, hat_at}
 use Rattle.zq_machine.specs.Writing.{Told, tell}
 use Rattle.zq_machine.proofs.Agreeing.{some_of}
 use Rattle.zq_machine.proofs.Changing.{hat_here}
 use Rattle.zq_egress.specs.Gone.{IsTold}
-use Rattle.zq_egress.specs.Holding.{entry_held, let_go}
+use Rattle.zq_egress.specs.Holding.{entry_held}
 use Rattle.zq_egress.specs.Neighbours.{told_with}
 use Rattle.zq_egress.specs.Telling.{behind}
-use Rattle.zq_egress.specs.declared.holding.Hold.TheVariants as by
 use Rattle.zq_dispatcher.specs.Routers.{entered}
 use Rattle.zq_dispatcher.proofs.Seats.{hat_region, region_indexed}
 use Rattle.zq_gateway.specs.Entries.{without_gone}
