@@ -20,10 +20,10 @@ never false false e = cc
 
 -- no memory was found, and that is what the answer says
 spent_of : {X : Type 0} (b new : BusState) (o : Option BusRefusal) (r : Result X BusRefusal) → (o ≡ Some refusal.OutOfMemory → ⊥) → r ≡ Err refusal.OutOfMemory → IfSome o (λ e. (r ≡ Err e) × (new ≡ b)) → (o ≡ None → IfErr r (λ e. (e ≡ refusal.OutOfMemory) × IsSpent b new)) → IsSpent b new
-spent_of {X} b new None r no is refused memory =
+spent_of {X} b new None r unless is refused memory =
     let P : Result X BusRefusal → Type 0 = λ s. IfErr s (λ e. (e ≡ refusal.OutOfMemory) × IsSpent b new) in
     (subst P is (memory refl)).1
-spent_of b new (Some e) r no is refused memory = absurd (no (ap Some (same _ _ (sym refused.0 ∙ is))))
+spent_of b new (Some e) r unless is refused memory = absurd (unless (ap Some (same _ _ (sym refused.0 ∙ is))))
   where
     same : {X : Type 0} (e f : BusRefusal) → ◌≡◌ {A = Result X BusRefusal} (Err e) (Err f) → e ≡ f
     same e f h = cc
