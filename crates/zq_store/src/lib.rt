@@ -10,8 +10,7 @@
 //! - `asking`: the calls of a get
 //! - `bus`: the gateway with its asker and its storages
 //! - `lines`: what the lines of a script for storages say
-//! - `outcome`: what these lines come to
-//! - `printing`: what is printed of it
+//! - `printing`: what is printed for them, while they are done
 //! - `running`: reads a script from a source, and gives its print to a sink
 //! - `laws`: which storages a pair's key leads to
 #![tactic(auto)]
@@ -24,8 +23,7 @@ mod held;
 mod joining;
 pub mod laws;
 pub mod lines;
-pub mod outcome;
-pub mod printing;
+mod printing;
 mod room;
 pub mod running;
 pub mod storage;

@@ -1,4 +1,0 @@
-pub mod AsBox
-pub mod Crossing
-pub mod Holding
-pub mod Telling

@@ -1,3 +1,0 @@
-pub mod Crossing
-pub mod KeyTexts
-pub mod Opened
