@@ -3,3 +3,4 @@ pub mod Numbers
 pub mod Ended
 pub mod Replayed
 pub mod Judged
+pub mod Reaching

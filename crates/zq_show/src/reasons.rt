@@ -480,7 +480,7 @@ fn is_any(_offer: &QueryTargetQabl) -> bool
 }
 
 /// The nearest complete offer of all regions, where the choice is over all regions.
-#[tactic(auto, using(zq_egress::proofs::Selected::filter_all))]
+#[tactic(auto, using(crate::proofs::Reaching::filter_all))]
 fn nearest_in(
     alloc: Global,
     asker: &Asker<'_>,
