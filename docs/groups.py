@@ -46,6 +46,8 @@ GROUPS = {
         'zq_show': 'a run as a page',
         'zq_session': 'a script in a namespace',
         'zq_session_main': 'the command zq inside',
+        'zq_admin': 'who declared which key',
+        'zq_admin_main': 'the command zq admin',
         'zq_store': 'storages that answer queries',
         'zq_store_main': 'the command zq store',
         'zq_program': 'workers in threads',
