@@ -63,6 +63,7 @@ OTHERS = {
         'zq_tests_threads': 'tests of the lock and of callers in threads',
         'zq_tests_runs': 'whole scripts with their prints',
         'zq_tests_session': 'whole scripts in namespaces',
+        'zq_tests_admin': 'the administration view',
         'zq_tests_store': 'scripts for storages',
         'zq_working': 'the program that bench/share times',
     },

@@ -44,8 +44,20 @@ pub fn list(alloc: Global, gateway: &Gateway, key: &Key) -> Result<AdminList, Ou
     };
     let mut list = Items::new(alloc);
     let queriers = front(alloc, own, "querier")?;
-    add_met(&mut list, alloc, queriers.as_str(), key, gateway.sourced_queriers()?)?;
+    add_met(
+        &mut list,
+        alloc,
+        queriers.as_str(),
+        key,
+        gateway.sourced_queriers()?,
+    )?;
     let queryables = front(alloc, own, "queryable")?;
-    add_met(&mut list, alloc, queryables.as_str(), key, gateway.sourced_queryables()?)?;
+    add_met(
+        &mut list,
+        alloc,
+        queryables.as_str(),
+        key,
+        gateway.sourced_queryables()?,
+    )?;
     Ok(list)
 }

@@ -2,7 +2,7 @@ use std::alloc::Global;
 use zq_admin::{Admin, MemorySink, MemorySource, Status, admin_run};
 use zq_key::memory::OutOfMemory;
 use zq_key::text::{Bytes, Text};
-use zq_script::{ScriptRefusal, print_steps, read_script};
+use zq_script::{print_steps, read_script};
 
 /// Three faces of Local, of which two declare keys and one asks for one.
 const SCRIPT: &str = "config 1 10000 north:client local\n\
@@ -92,16 +92,18 @@ const ANSWERED: &str = "= opened 1\n\
     > 2 1 - final 8 3\n";
 
 /// What the calls of a script print on a gateway with its own face.
-fn answered(alloc: Global, script: &str) -> Result<Vec<u8>, ScriptRefusal> {
+fn answered(alloc: Global, script: &str) -> Result<Vec<u8>, OutOfMemory> {
     let mut out = Vec::new(alloc);
-    let script = read_script(alloc, script.as_bytes(), 0)?;
+    let Ok(script) = read_script(alloc, script.as_bytes(), 0) else {
+        return Err(OutOfMemory);
+    };
     let Ok(mut admin) = Admin::new(alloc, &script.config) else {
-        return Err(ScriptRefusal::OutOfMemory);
+        return Err(OutOfMemory);
     };
     for part in script.parts.as_slice() {
         for call in part.as_slice() {
             let Ok(steps) = admin.call(call) else {
-                return Err(ScriptRefusal::OutOfMemory);
+                return Err(OutOfMemory);
             };
             let print = print_steps(alloc, steps.as_slice())?;
             out.extend_from_slice(print.as_slice())?;
