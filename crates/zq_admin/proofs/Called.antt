@@ -26,7 +26,7 @@ some_answered own (Some q) rid found items t s left r asked same given =
 -- where the face is asked nothing, the step stands alone
 pub none_answered : (own : FaceId) (o : Option Request) (items : List Step) (t : Step) (s : State) → o ≡ None → items ≡ t ∷ [] → Answers (answered own o (going_on (t ∷ []) s)) (entries_due o s) (Ok items) s
 none_answered own None items t s none same = record { steps = same; state = refl }
-none_answered own (Some q) items t s none same = cc
+none_answered own (Some q) items t s none same = absurd (let gap : Some q ≡ None = none in cc)
 
 -- an equal step, and an equal state behind it
 moved : (own : FaceId) (t u : Step) (z y left : State) (r : Result (List Step) AdminRefusal) → t ≡ u → z ≡ y → AnswersStep own t z r left → AnswersStep own u y r left
