@@ -252,14 +252,14 @@ same_count c (hearing face id keys sd) h = refl
 same_count c (unhearing face id) h = refl
 
 -- ---- one call
-abbrev Asks : List Final → State → Type 0
+abbrev pub Asks : List Final → State → Type 0
 Asks asked s = Each (IsAsked asked) s.core.queries.records
 
 -- what a call leaves, hands and counts, where what was asked before it is known, and it asks these
-record Tells (asked new : List Final) (s s' : State) (t : Step) : Type 0 where
-  records : Asks (asked ++ new) s'
-  handed : AllByRecursion (IsHandedToAsker (asked ++ new)) t.handed
-  counted : (rest : List ℕ) → AreCounted s'.core.queries.requests rest → AreCounted s.core.queries.requests (map asked_number new ++ rest)
+pub record Tells (asked new : List Final) (s s' : State) (t : Step) : Type 0 where
+  pub records : Asks (asked ++ new) s'
+  pub handed : AllByRecursion (IsHandedToAsker (asked ++ new)) t.handed
+  pub counted : (rest : List ℕ) → AreCounted s'.core.queries.requests rest → AreCounted s.core.queries.requests (map asked_number new ++ rest)
 
 more_asked : (asked new : List Final) (s : State) → Asks asked s → Asks (asked ++ new) s
 more_asked asked new s all =
@@ -323,7 +323,7 @@ module _ (asked : List Final) (s : State) (all : Asks asked s) where
         })
         (λ x. record { records = no_more; handed = tt; counted = λ rest are. are })
 
-  call_tells : (c : Call) → Tells asked (asked_by c (step s c)) s (after s c) (step s c)
+  pub call_tells : (c : Call) → Tells asked (asked_by c (step s c)) s (after s c) (step s c)
   unfolding is_asking
   call_tells (call.Request face r now) = request_tells face r now
   call_tells (call.Open o) = quiet (opening o) refl

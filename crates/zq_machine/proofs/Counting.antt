@@ -168,14 +168,16 @@ replies_next s t rest = by t
         (timeouts_counted s.core.queries now rest (subst (λ n. AreCounted n rest) (numbers_given ts s.core.queries) are))
     by x are = are
 
-pub replies_counted : (config : Settings) (calls : List Call) → AreCounted config.start.replies (replies_in (steps_from (opening_state config) calls))
-replies_counted config calls =
-    counted_run (λ s. s.core.queries.replies) replies_of
-    (λ s c rest. by_granted (λ t z. AreCounted z.core.queries.replies rest → AreCounted s.core.queries.replies (replies_of t ++ rest)) s (read s c)
+-- one call
+pub call_replies : (s : State) (c : Call) (rest : List ℕ) → AreCounted (after s c).core.queries.replies rest → AreCounted s.core.queries.replies (replies_of (step s c) ++ rest)
+call_replies s c rest =
+    by_granted (λ t z. AreCounted z.core.queries.replies rest → AreCounted s.core.queries.replies (replies_of t ++ rest)) s (read s c)
     (λ text z w it are. subst (λ l. AreCounted s.core.queries.replies (l ++ rest)) (sym (mapped_out text reply_number (λ h left. refl) z.handed w.gates)) (it are))
     (λ p places z w it are. subst (λ l. AreCounted s.core.queries.replies (l ++ rest)) (sym (mapped_ended reply_number (λ f. refl) z.handed (finish w.core (p ∷ places)).finals)) (it are))
     (λ h are.
     subst (λ l. AreCounted s.core.queries.replies (l ++ rest)) (sym (mapped_beside s (read s c) (write s.names (granted s.core (read s c)).messages) reply_number (λ to d. refl)))
     (replies_next s (read s c) rest are))
-    (λ r are. are))
-    calls (opening_state config)
+    (λ r are. are)
+
+pub replies_counted : (config : Settings) (calls : List Call) → AreCounted config.start.replies (replies_in (steps_from (opening_state config) calls))
+replies_counted config calls = counted_run (λ s. s.core.queries.replies) replies_of call_replies calls (opening_state config)

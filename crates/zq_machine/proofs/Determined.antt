@@ -38,7 +38,7 @@ abbrev opened_as : Standing → OpenFace
 opened_as st = st.opened
 
 -- what a region's hat keeps of a face
-abbrev kept_in : Region → Option Standing → Option FaceState
+abbrev pub kept_in : Region → Option Standing → Option FaceState
 kept_in r None = None
 kept_in r (Some st) = cond (stands_in r st.opened) (Some st.kept) None
 
@@ -50,7 +50,7 @@ module _ (config : Settings) (s : State) (i : InOrder config s) where
       by None e = e ∙ sym (ap (λ x. option_map opened_as (standing_of (gate_at q s.gates) x (naming_at q s.names) (kept_at q s.core))) e)
       by (Some o) e = e ∙ sym (ap (option_map opened_as) (stands_so s.gates s.core.faces s.core.hats s.names i.tied q o e))
 
-  hat_stands : (r : Region) (h : HatState) → hat_at r s.core.hats ≡ Some h → (q : ℕ) → face_at q h ≡ kept_in r (standing_at q s)
+  pub hat_stands : (r : Region) (h : HatState) → hat_at r s.core.hats ≡ Some h → (q : ℕ) → face_at q h ≡ kept_in r (standing_at q s)
   hat_stands r h h_at q = by (at q s.core.faces) refl
     where
       seat : (x : Option OpenFace) → at q s.core.faces ≡ x → has_face q h ≡ option_map_or (stands_in r) x false
