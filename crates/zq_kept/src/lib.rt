@@ -1,0 +1,4 @@
+//! Offers that are kept from call to call.
+#![tactic(auto)]
+
+pub mod table;
