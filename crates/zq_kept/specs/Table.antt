@@ -8,6 +8,7 @@ use Rattle.zq_message.specs.Region.{region_index}
 use Rattle.zq_message.specs.RegionMap.{value_at}
 use Rattle.zq_route.specs.Routes.{Origin, origin_cmp, origin_of, route_at}
 use Rattle.zq_index.specs.Texts.{text_cmp, at_text}
+use Rattle.zq_tables.specs.Naming.{NamingState, has_context}
 
 -- routes under the version that they were stored under
 abbrev pub Under : Type 0 → Type 0
@@ -73,3 +74,11 @@ module _ {T : Type 0} where
   -- each route of another text is there as before
   abbrev pub OtherTexts : Table T → Table T → List ℕ → Type 0
   OtherTexts old new key = (r : Region) (k : List ℕ) (s : Region) (n : ℕ) → is_at (text_cmp key) k ≡ false → route_of r k s n new ≡ route_of r k s n old
+
+  -- the texts whose node the names have stay as they are, and the others go
+  abbrev pub OnlyNamed : Table T → Table T → NamingState → Type 0
+  OnlyNamed old new names = (k : List ℕ) → at_text k new.1 ≡ (if has_context k names then at_text k old.1 else None)
+
+  -- so it is of their routes
+  abbrev pub NamedRoutes : Table T → Table T → NamingState → Type 0
+  NamedRoutes old new names = (r : Region) (k : List ℕ) (s : Region) (n : ℕ) → route_of r k s n new ≡ (if has_context k names then route_of r k s n old else None)

@@ -1,12 +1,13 @@
 //! The routes of texts, by the region that they lead to.
-ghost use Rattle.std.specs.Prelude.{◌≡◌, ◌<◌, ℕ, List, [], None, Some, IfOk, OnOk, OnErr, is_some, true, option_copied, length};
+ghost use Rattle.std.specs.Prelude.{◌≡◌, ◌<◌, ℕ, List, [], None, Some, IfOk, OnOk, OnErr, is_some, true, option_copied, length, if◌then◌else◌, string_bytes};
 ghost use Rattle.zq_message.specs.declared.message.Region.{Region};
 ghost use Rattle.zq_message.specs.Region.{HasIndex};
 ghost use Rattle.zq_message.specs.RegionMap.{value_at};
 ghost use Rattle.zq_index.specs.Texts.{at_text, text_cmp, texts_of};
 ghost use Rattle.std.specs.BTreeMap.{is_at};
 ghost use Rattle.std.specs.Map.{remove_entry};
-ghost use Rattle.zq_kept.specs.Table.{Fewer, OtherTexts, Others, Stores, route_in, route_of, version_of};
+ghost use Rattle.zq_tables.specs.Naming.{has_context};
+ghost use Rattle.zq_kept.specs.Table.{Fewer, NamedRoutes, OnlyNamed, OtherTexts, Others, Stores, route_in, route_of, version_of};
 ghost use Rattle.zq_kept.specs.Parts.{GivesText, SetsIn};
 
 use std::alloc::Global;
@@ -16,6 +17,7 @@ use zq_message::memory::OutOfMemory;
 use zq_message::message::{NodeId, Region};
 use zq_message::{RegionMap, region_to_index};
 use zq_route::{Routes, RoutesVersion};
+use zq_tables::naming::Naming;
 
 /// The routes of one text, by the region that they lead to.
 pub type TextRoutes<T> = RegionMap<Routes<T>>;
@@ -171,6 +173,16 @@ fn take_out<T: Drop>(texts: &mut BTreeMap<String, TextRoutes<T>>, key: &str)
     let _ = texts.remove(key);
 }
 
+// The texts whose node the names have stay.
+fn retain_named<T: Drop>(texts: &mut BTreeMap<String, TextRoutes<T>>, names: &Naming)
+    ensures { (k : List ℕ) → at_text k (texts_of texts.new.entries) ≡ (if has_context k names.now then at_text k (texts_of texts.old.entries) else None) }
+{
+    texts.retain(|text: &String, routes: &mut TextRoutes<T>| -> bool
+        ensures value { result ≡ has_context (string_bytes text.now) names.entry.now }
+        ensures same { routes.new ≡ routes.old }
+    { names.has_context(text.as_str()) });
+}
+
 impl<T> RouteTable<T> {
     /// No routes, and the version 0 for each region.
     pub fn new(alloc: Global) -> Result<RouteTable<T>, OutOfMemory>
@@ -302,5 +314,15 @@ impl<T> RouteTable<T> {
         ensures others { OtherTexts self.old self.new key.now }
     {
         take_out(&mut self.texts, key);
+    }
+
+    /// Only the texts whose node the names have stay: the others have no routes any more. It takes no memory.
+    pub fn sweep(&mut self, names: &Naming)
+    where
+        T: Drop,
+        ensures texts { OnlyNamed self.old self.new names.now }
+        ensures routes { NamedRoutes self.old self.new names.now }
+    {
+        retain_named(&mut self.texts, names);
     }
 }
