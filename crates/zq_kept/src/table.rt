@@ -177,10 +177,12 @@ fn take_out<T: Drop>(texts: &mut BTreeMap<String, TextRoutes<T>>, key: &str)
 fn retain_named<T: Drop>(texts: &mut BTreeMap<String, TextRoutes<T>>, names: &Naming)
     ensures { (k : List ℕ) → at_text k (texts_of texts.new.entries) ≡ (if has_context k names.now then at_text k (texts_of texts.old.entries) else None) }
 {
-    texts.retain(|text: &String, routes: &mut TextRoutes<T>| -> bool
-        ensures value { result ≡ has_context (string_bytes text.now) names.entry.now }
-        ensures same { routes.new ≡ routes.old }
-    { names.has_context(text.as_str()) });
+    texts.retain(
+        |text: &String, routes: &mut TextRoutes<T>| -> bool
+            ensures value { result ≡ has_context (string_bytes text.now) names.entry.now }
+            ensures same { routes.new ≡ routes.old }
+        { names.has_context(text.as_str()) },
+    );
 }
 
 impl<T> RouteTable<T> {
@@ -195,6 +197,10 @@ impl<T> RouteTable<T> {
             texts: BTreeMap::new(alloc),
             alloc,
         })
+    }
+
+    pub(crate) fn alloc(&self) -> Global {
+        self.alloc
     }
 
     /// How many texts have routes, or had some under a version before.
