@@ -22,8 +22,10 @@ use Rattle.zq_machine.specs.State.{change_hat, hat_at, is_region, put_hat}
 use Rattle.zq_machine.proofs.Changing.{each_hat, hat_found, region_there}
 use Rattle.zq_route.specs.Routes.{Origin, origin_cmp, origin_of}
 use Rattle.zq_route.proofs.Stored.{origin_exact, origin_total}
+use Rattle.zq_tables.specs.Naming.{NamingState}
+use Rattle.zq_kept.proofs.Sweeping.{swept_fewer}
 use Rattle.zq_kept.specs.Picked.{lists_of}
-use Rattle.zq_kept.specs.Table.{Fewer, Stores, route_in, route_of, routes_at, routes_to, same_place, version_of}
+use Rattle.zq_kept.specs.Table.{Fewer, NamedRoutes, Stores, route_in, route_of, routes_at, routes_to, same_place, version_of}
 use Rattle.std.specs.Prelude.{IfSome, option_copied, slice_index}
 use Rattle.zq_kept.specs.Current.{AreCurrent, IsKeptFor, Keeps, KeptOffers, StandsAt, context_for, node_for}
 use Rattle.zq_machine.specs.Selecting.{AskerState, offers_to}
@@ -146,3 +148,7 @@ pushed (a ∷ bs) b os rest e = ap (λ l. a.now ∷ l) (pushed bs b os rest e)
 -- where no text has routes, all that is kept is current
 pub none_current : (t : KeptOffers) (hats : List (ℕ × HatState)) → t.1 ≡ [] → AreCurrent t hats
 none_current t hats none r k s n os is h at = absurd (let gap : None ≡ Some os = sym (ap (λ es. route_in (version_of r t) s n (routes_to r (at_text k es))) none) ∙ is in cc)
+
+-- once a sweep has left fewer, these are current
+pub swept_current : (t u : KeptOffers) (names : NamingState) (hats : List (ℕ × HatState)) → NamedRoutes t u names → AreCurrent t hats → AreCurrent u hats
+swept_current t u names hats routes = fewer_current t u hats (swept_fewer t u names routes)

@@ -1,5 +1,5 @@
 -- What a contract sees of a `RouteTable`.
-use Rattle.std.specs.Prelude.{◌≡◌, ℕ, ◌≤◌, ◌&&◌, Bool, false, List, Option, None, Some, length, slice_index, if◌then◌else◌}
+use Rattle.std.specs.Prelude.{◌≡◌, ℕ, ◌≤◌, ◌&&◌, Bool, false, true, List, Option, None, Some, length, slice_index, if◌then◌else◌}
 use Rattle.std.specs.Map.{lookup}
 use Rattle.std.specs.BTreeMap.{is_at}
 use Rattle.std.specs.Ordering.{nat_cmp}
@@ -82,3 +82,7 @@ module _ {T : Type 0} where
   -- so it is of their routes
   abbrev pub NamedRoutes : Table T → Table T → NamingState → Type 0
   NamedRoutes old new names = (r : Region) (k : List ℕ) (s : Region) (n : ℕ) → route_of r k s n new ≡ (if has_context k names then route_of r k s n old else None)
+
+  -- the routes of texts whose node the names have are there as before
+  abbrev pub NamedStay : Table T → Table T → NamingState → Type 0
+  NamedStay old new names = (r : Region) (k : List ℕ) (s : Region) (n : ℕ) → has_context k names ≡ true → route_of r k s n new ≡ route_of r k s n old

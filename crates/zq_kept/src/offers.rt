@@ -1,5 +1,5 @@
 //! The offers of a request, by those that are kept, and what becomes of these.
-ghost use Rattle.std.specs.Prelude.{◌≡◌, ℕ, List, [], true, IfOk, OnOk, IfSome, Some, IsTrue, map, option_copied};
+ghost use Rattle.std.specs.Prelude.{◌≡◌, ◌<◌, ◌≤◌, ◌+◌, ◌*◌, ℕ, List, [], length, true, IfOk, OnOk, IfSome, Some, IsTrue, map, option_copied};
 ghost use Rattle.std.specs.List.{All};
 ghost use Rattle.std.specs.Map.{values_of};
 ghost use Rattle.zq_key.specs.Key.{is_key as key_of};
@@ -14,7 +14,7 @@ ghost use Rattle.zq_strategy.specs.Offers.{offers_of};
 ghost use Rattle.zq_strategy.specs.State.{HatState};
 ghost use Rattle.zq_tables.specs.Naming.{has_context as has_context_of};
 ghost use Rattle.zq_kept.specs.Current.{AreCurrent, ArePlaced, IsKeptFor, Keeps};
-ghost use Rattle.zq_kept.specs.Table.{Fewer, route_of};
+ghost use Rattle.zq_kept.specs.Table.{Fewer, NamedStay, OnlyNamed, route_of};
 
 use crate::asking::{Asking, KeptOffers};
 use crate::pick::route;
@@ -25,6 +25,9 @@ use zq_key::message::{NodeId, QueryTarget, Region};
 use zq_route::selection::Best;
 use zq_strategy::types::{OfferList, QueryTargetQabl};
 use zq_tables::naming::Naming;
+
+// So many texts are not worth a look at all of them.
+const FEW_TEXTS: usize = 64;
 
 /// No offers are kept.
 #[tactic(auto, using(crate::proofs::Current::none_current))]
@@ -136,4 +139,21 @@ pub fn kept_at<'k>(
         return None;
     }
     kept.get(destination, key, asker, node)
+}
+
+/// Where as many texts as the limit have lists, or had some, only those whose node the names have stay, and
+/// the limit is twice their number and some more from then on. It takes no memory.
+#[tactic(auto, using(crate::proofs::Current::swept_current, crate::proofs::Sweeping::swept_fewer, crate::proofs::Sweeping::swept_stay))]
+pub fn make_room(kept: &mut KeptOffers, names: &Naming, limit: &mut usize)
+    ensures few { length kept.old.1 < limit.old → (kept.new ≡ kept.old) × (limit.new ≡ limit.old) }
+    ensures many { limit.old ≤ length kept.old.1 → OnlyNamed kept.old kept.new names.now × limit.new ≤ 2 * length kept.new.1 + 64 }
+    ensures room { length kept.new.1 ≤ limit.new }
+    ensures current { (hats : List (ℕ × HatState)) → AreCurrent kept.old hats → AreCurrent kept.new hats }
+    ensures stay { NamedStay kept.old kept.new names.now }
+{
+    if kept.len() < *limit {
+        return;
+    }
+    kept.sweep(names);
+    *limit = kept.len().saturating_mul(2).saturating_add(FEW_TEXTS);
 }
