@@ -1,15 +1,9 @@
 -- The first complete offer among those that pass, and the nearest one.
-use Rattle.std.proofs.Common.{◌≡◌, ◌∙◌, sym, refl, Bool, true, false, cond, List, [], ◌∷◌, drop, ◌+◌, ◌<◌, ℕ, get_or, length, true≢false, Option, Some, None, fold, ap}
+use Rattle.std.proofs.Common.{◌≡◌, ◌∙◌, sym, refl, Bool, true, false, cond, List, ◌∷◌, drop, ◌+◌, ◌<◌, ℕ, get_or, length, true≢false, Option, fold, ap}
 use Rattle.std.specs.Prelude.{◌&&◌, filter, find}
-use Rattle.std.specs.List.{flat_map}
-use Rattle.std.specs.Option.{option_map_or}
 use Rattle.std.proofs.lemmas.List.{at_drop_more}
-use Rattle.std.proofs.lemmas.List.Elements.{filter-append}
-use Rattle.std.proofs.lemmas.List.Sums.{fold-append}
 use Rattle.zq_strategy.specs.declared.offer.QueryTargetQabl.{QueryTargetQabl}
-use Rattle.zq_message.specs.declared.message.QueryTarget.TheVariants as target
-use Rattle.zq_route.specs.Built.{with_first}
-use Rattle.zq_route.specs.Selection.{best_overall, by_face, chosen, is_complete, joined, nearer, nearest, with_offers}
+use Rattle.zq_route.specs.Selection.{is_complete, nearer}
 
 module _ (test : QueryTargetQabl → Bool) where
   past_by : (o : QueryTargetQabl) (rest : List QueryTargetQabl) (a b : Bool) → test o ≡ a → is_complete o ≡ b → (a && b) ≡ false → find is_complete (cond a (o ∷ filter test rest) (filter test rest)) ≡ find is_complete (filter test rest)
@@ -39,15 +33,3 @@ module _ (test : QueryTargetQabl → Bool) where
       by true false ec false e = rw ec refl
       by false c ec true e = absurd (true≢false (sym e))
       by false c ec false e = refl
-
--- one more region is looked at
-pub nearer_more : (found : Option QueryTargetQabl) (part : List QueryTargetQabl) (parts : List (List QueryTargetQabl)) → fold nearer (fold nearer found (filter is_complete part)) (filter is_complete (joined parts)) ≡ fold nearer found (filter is_complete (joined (part ∷ parts)))
-nearer_more found part parts = sym (ap (fold nearer found) (filter-append is_complete part (joined parts)) ∙ fold-append nearer found (filter is_complete part) (filter is_complete (joined parts)))
-
--- where none is complete, all are picked
-pub none_complete : (parts : List (List QueryTargetQabl)) → nearest (filter is_complete (joined parts)) ≡ None → with_offers [] (flat_map (chosen target.All) parts) ≡ with_offers [] (best_overall (joined parts))
-none_complete parts e = ap (with_offers []) (sym (ap (λ o. option_map_or (λ x. x ∷ []) o (joined parts)) e))
-
--- the nearest complete one is picked alone
-pub one_complete : (parts : List (List QueryTargetQabl)) (o : QueryTargetQabl) → nearest (filter is_complete (joined parts)) ≡ Some o → with_first [] (by_face o) ≡ with_offers [] (best_overall (joined parts))
-one_complete parts o e = ap (with_offers []) (sym (ap (λ x. option_map_or (λ y. y ∷ []) x (joined parts)) e))

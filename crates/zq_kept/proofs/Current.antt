@@ -1,5 +1,5 @@
 -- Kept offers stay those of their regions: where fewer are kept, where a region's hat has changed and none of its are, and where one more list is kept.
-use Rattle.std.proofs.Common.{◌≡◌, ◌∙◌, sym, ap, refl, arith, subst, ℕ, ◌+◌, ◌*◌, List, [], ◌∷◌, ◌++◌, Some, None, Option, cond, Bool, true, false, true≢false, Bor}
+use Rattle.std.proofs.Common.{◌≡◌, ◌∙◌, sym, ap, refl, arith, subst, ℕ, ◌+◌, ◌*◌, List, [], ◌∷◌, ◌++◌, Some, None, Option, cond, Bool, true, false, Bor}
 use Rattle.std.specs.Prelude.{◌&&◌}
 use Rattle.std.specs.Cmp.{nat_cmp_total}
 use Rattle.std.proofs.lemmas.Bool.Decides.{nat_tests}
@@ -19,7 +19,7 @@ use Rattle.zq_strategy.specs.declared.offer.QueryTargetQabl.{QueryTargetQabl}
 use Rattle.zq_strategy.specs.Offers.{offers_of}
 use Rattle.zq_strategy.specs.State.{HatState}
 use Rattle.zq_machine.specs.State.{change_hat, hat_at, is_region, put_hat}
-use Rattle.zq_machine.proofs.Changing.{each_hat, hat_found, region_there}
+use Rattle.zq_machine.proofs.Changing.{each_hat}
 use Rattle.zq_route.specs.Routes.{Origin, origin_cmp, origin_of}
 use Rattle.zq_route.proofs.Stored.{origin_exact, origin_total}
 use Rattle.zq_tables.specs.Naming.{NamingState}

@@ -1,5 +1,5 @@
 -- Offers that are kept, and what they have to be.
-use Rattle.std.specs.Prelude.{◌≡◌, ℕ, ◌<◌, Bool, true, List, Option, Some, None, if◌then◌else◌, fold, [], IfSome}
+use Rattle.std.specs.Prelude.{◌≡◌, ℕ, true, List, Option, Some, None, if◌then◌else◌, IfSome}
 use Rattle.std.specs.List.{All}
 use Rattle.std.specs.Map.{values_of}
 use Rattle.std.specs.Option.{is_some}
@@ -10,7 +10,7 @@ use Rattle.zq_strategy.specs.Regions.{same_region}
 use Rattle.zq_strategy.specs.State.{HatState}
 use Rattle.zq_machine.specs.Selecting.{AskerState}
 use Rattle.zq_machine.specs.State.{hat_at, is_region}
-use Rattle.zq_kept.specs.Table.{OfText, Table, route_in, route_of, routes_to, version_of}
+use Rattle.zq_kept.specs.Table.{Table, route_of}
 
 -- the lists of offers that are kept, by text, by the region that offers, and by the region and the node that ask
 abbrev pub KeptOffers : Type 0

@@ -1,9 +1,8 @@
-use Rattle.std.proofs.Common.{◌≡◌, ◌∙◌, sym, ap, Some, subst}
+use Rattle.std.proofs.Common.{◌∙◌, sym, ap}
 use Rattle.std.specs.Option.{is_some}
 use Rattle.zq_egress.specs.Askers.{asker_of}
-use Rattle.zq_strategy.specs.Offers.{offers_of}
 use Rattle.zq_machine.specs.State.{hat_at}
-use Rattle.zq_kept.specs.Table.{Stores, route_of}
+use Rattle.zq_kept.specs.Table.{route_of}
 use Rattle.zq_kept.proofs.Current.{kept_for, node_found, stored_current, stored_keeps, stored_there}
 use Rattle.zq_kept.proofs.asking.Asking.keep_one.Goals as goal
 

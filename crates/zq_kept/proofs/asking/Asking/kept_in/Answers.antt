@@ -1,4 +1,4 @@
-use Rattle.std.proofs.Common.{◌≡◌, ◌∙◌, sym, ap, Some}
+use Rattle.std.proofs.Common.{◌≡◌, ◌∙◌, sym, ap}
 use Rattle.zq_egress.specs.Askers.{asker_of}
 use Rattle.zq_machine.specs.Selecting.{offers_to}
 use Rattle.zq_kept.specs.Table.{route_in, route_of, routes_to, version_of}
