@@ -31,6 +31,7 @@ GROUPS = {
     'the gateway': {
         'zq_dispatcher': 'all hats, what is due',
         'zq_egress': 'messages and exits',
+        'zq_kept': 'offers that are kept',
         'zq_gateway': 'the calls, whole runs',
     },
     'threads': {
