@@ -1,5 +1,5 @@
 //! Who asks on which key, and the offers that are kept for its request.
-ghost use Rattle.std.specs.Prelude.{◌≡◌, true, IfOk, IfSome, OnOk, Some, IsTrue, map};
+ghost use Rattle.std.specs.Prelude.{◌≡◌, IfOk, IfSome, OnOk, Some, IsTrue, map};
 ghost use Rattle.std.specs.List.{All};
 ghost use Rattle.std.specs.Map.{values_of};
 ghost use Rattle.zq_key.specs.Key.{is_key as key_of};
@@ -59,48 +59,6 @@ impl<'a> Asking<'a> {
         self.context_for(hat)
     }
 
-    // Whether what a region offers the asker on the key is kept.
-    fn is_kept(&self, hat: &Hat, kept: &KeptOffers, routes: &TextRoutes<OfferList>) -> bool
-        requires src { HasIndex self.now.asker.opened.region }
-        requires there { StandsAt self.now.hats.now hat.now }
-        requires routes { at_text self.now.key.now kept.now.1 ≡ Some routes.now }
-        ensures { result ≡ true → IsKeptFor (asker_of self.now.asker) self.now.key.now kept.now hat.now }
-    {
-        match self.node_for(hat) {
-            Some(node) => kept
-                .route_in(routes, &hat.region(), &self.asker.opened.region, node)
-                .is_some(),
-            None => true,
-        }
-    }
-
-    // Whether what each region offers the asker on the key is kept, by the routes of its text.
-    fn are_kept(&self, kept: &KeptOffers, routes: &TextRoutes<OfferList>) -> bool
-        requires src { HasIndex self.now.asker.opened.region }
-        requires placed { ArePlaced self.now.hats.now }
-        requires routes { at_text self.now.key.now kept.now.1 ≡ Some routes.now }
-        ensures { result ≡ true → All (IsKeptFor (asker_of self.now.asker) self.now.key.now kept.now) (values_of self.now.hats.now) }
-    {
-        for hat in self.hats.values() {
-            if !self.is_kept(hat, kept, routes) {
-                return false;
-            }
-        }
-        true
-    }
-
-    // Whether what each region offers the asker on the key is kept.
-    pub(crate) fn are_all_kept(&self, kept: &KeptOffers) -> bool
-        requires src { HasIndex self.now.asker.opened.region }
-        requires placed { ArePlaced self.now.hats.now }
-        ensures { result ≡ true → All (IsKeptFor (asker_of self.now.asker) self.now.key.now kept.now) (values_of self.now.hats.now) }
-    {
-        match kept.of_text(self.key) {
-            Some(routes) => self.are_kept(kept, routes),
-            None => false,
-        }
-    }
-
     // What a region offers the asker on the key is kept.
     fn keep_one(&self, hat: &Hat, kept: &mut KeptOffers) -> Result<(), OutOfMemory>
         requires key { IsTrue (key_of self.now.key.now) }
@@ -151,7 +109,8 @@ impl<'a> Asking<'a> {
         requires there { StandsAt self.now.hats.now hat.now }
         requires current { AreCurrent kept.now self.now.hats.now }
         requires routes { at_text self.now.key.now kept.now.1 ≡ Some routes.now }
-        ensures { IfSome result (λ os. os.now ≡ offers_to (asker_of self.now.asker) self.now.key.now hat.now) }
+        ensures offers { IfSome result (λ os. os.now ≡ offers_to (asker_of self.now.asker) self.now.key.now hat.now) }
+        ensures kept { IfSome result (λ _. IsKeptFor (asker_of self.now.asker) self.now.key.now kept.now hat.now) }
     {
         let Some(node) = self.node_for(hat) else {
             return None;
@@ -171,7 +130,8 @@ impl<'a> Asking<'a> {
         requires placed { ArePlaced self.now.hats.now }
         requires current { AreCurrent kept.now self.now.hats.now }
         requires routes { at_text self.now.key.now kept.now.1 ≡ Some routes.now }
-        ensures { IfOk result (λ o. IfSome o (λ v. lists_of v.items ≡ map (offers_to (asker_of self.now.asker) self.now.key.now) (values_of self.now.hats.now))) }
+        ensures offers { IfOk result (λ o. IfSome o (λ v. lists_of v.items ≡ map (offers_to (asker_of self.now.asker) self.now.key.now) (values_of self.now.hats.now))) }
+        ensures kept { IfOk result (λ o. IfSome o (λ _. All (IsKeptFor (asker_of self.now.asker) self.now.key.now kept.now) (values_of self.now.hats.now))) }
     {
         let mut lists = Vec::new(alloc);
         for hat in self.hats.values() {
@@ -192,7 +152,8 @@ impl<'a> Asking<'a> {
         requires src { HasIndex self.now.asker.opened.region }
         requires placed { ArePlaced self.now.hats.now }
         requires current { AreCurrent kept.now self.now.hats.now }
-        ensures { IfOk result (λ o. IfSome o (λ v. lists_of v.items ≡ map (offers_to (asker_of self.now.asker) self.now.key.now) (values_of self.now.hats.now))) }
+        ensures offers { IfOk result (λ o. IfSome o (λ v. lists_of v.items ≡ map (offers_to (asker_of self.now.asker) self.now.key.now) (values_of self.now.hats.now))) }
+        ensures kept { IfOk result (λ o. IfSome o (λ _. All (IsKeptFor (asker_of self.now.asker) self.now.key.now kept.now) (values_of self.now.hats.now))) }
     {
         match kept.of_text(self.key) {
             Some(routes) => self.lists_in(alloc, kept, routes),

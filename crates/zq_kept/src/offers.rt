@@ -1,5 +1,5 @@
 //! The offers of a request, by those that are kept, and what becomes of these.
-ghost use Rattle.std.specs.Prelude.{◌≡◌, ◌<◌, ◌≤◌, ◌+◌, ◌*◌, ℕ, List, [], length, true, IfOk, OnOk, IfSome, Some, IsTrue, map, option_copied};
+ghost use Rattle.std.specs.Prelude.{◌≡◌, ◌<◌, ◌≤◌, ◌+◌, ◌*◌, ℕ, List, [], length, true, false, IfOk, OnOk, IfSome, Some, IsTrue, map, option_copied};
 ghost use Rattle.std.specs.List.{All};
 ghost use Rattle.std.specs.Map.{values_of};
 ghost use Rattle.zq_key.specs.Key.{is_key as key_of};
@@ -51,19 +51,40 @@ pub fn keep_if_named(
     ensures kept { OnOk result (has_context_of asking.now.key.now names.now ≡ true → All (IsKeptFor (asker_of asking.now.asker) asking.now.key.now kept.new) (values_of asking.now.hats.now)) }
     ensures current { AreCurrent kept.new asking.now.hats.now }
     ensures keeps { Keeps kept.old kept.new }
+    ensures unnamed { has_context_of asking.now.key.now names.now ≡ false → kept.new ≡ kept.old }
 {
-    if asking.are_all_kept(kept) {
-        return Ok(());
-    }
     if !names.has_context(asking.key) {
         return Ok(());
     }
     asking.keep_routes(kept)
 }
 
+// The offers that the asker's request is handed to under a choice, of each face one, if a list of each
+// region is kept for it.
+#[tactic(auto, using(zq_machine::proofs::Routes::route_distinct, zq_egress::proofs::Selected::parts_of, zq_egress::proofs::Selected::takes_nearest))]
+fn select_kept(
+    asking: &Asking,
+    alloc: Global,
+    kept: &KeptOffers,
+    target: QueryTarget,
+    best: Best,
+) -> Result<Option<Vec<QueryTargetQabl>>, OutOfMemory>
+    requires src { HasIndex asking.now.asker.opened.region }
+    requires placed { ArePlaced asking.now.hats.now }
+    requires current { AreCurrent kept.now asking.now.hats.now }
+    ensures offers { IfOk result (λ o. IfSome o (λ v. v.items ≡ values_of (with_offers [] (picked best target (parts_for (asker_of asking.now.asker) asking.now.key.now (values_of asking.now.hats.now)))))) }
+    ensures distinct { IfOk result (λ o. IfSome o (λ v. are_distinct (face_numbers (map target_of v.items)) ≡ true)) }
+    ensures nearest { IfOk result (λ o. IfSome o (λ v. TakesNearest best target (joined (parts_for (asker_of asking.now.asker) asking.now.key.now (values_of asking.now.hats.now))) v.items)) }
+    ensures kept { IfOk result (λ o. IfSome o (λ _. All (IsKeptFor (asker_of asking.now.asker) asking.now.key.now kept.now) (values_of asking.now.hats.now))) }
+{
+    let Some(lists) = asking.lists(alloc, kept)? else {
+        return Ok(None);
+    };
+    Ok(Some(route(&asking.asker, alloc, lists.as_slice(), target, best)?.build()))
+}
+
 /// The offers that the asker's request is handed to under a choice, of each face one: what `Asker::select`
 /// answers, by the lists that are kept where there is one of each region.
-#[tactic(auto, using(zq_machine::proofs::Routes::route_distinct, zq_egress::proofs::Selected::parts_of, zq_egress::proofs::Selected::takes_nearest))]
 pub fn select_by(
     asking: &Asking,
     alloc: Global,
@@ -79,8 +100,8 @@ pub fn select_by(
     ensures distinct { IfOk result (λ v. are_distinct (face_numbers (map target_of v.items)) ≡ true) }
     ensures nearest { IfOk result (λ v. TakesNearest best target (joined (parts_for (asker_of asking.now.asker) asking.now.key.now (values_of asking.now.hats.now))) v.items) }
 {
-    match asking.lists(alloc, kept)? {
-        Some(lists) => Ok(route(&asking.asker, alloc, lists.as_slice(), target, best)?.build()),
+    match select_kept(asking, alloc, kept, target, best)? {
+        Some(offers) => Ok(offers),
         None => asking
             .asker
             .select(alloc, asking.hats, asking.key, target, best),
@@ -106,9 +127,14 @@ pub fn offers_for(
     ensures kept { OnOk result (has_context_of asking.now.key.now names.now ≡ true → All (IsKeptFor (asker_of asking.now.asker) asking.now.key.now kept.new) (values_of asking.now.hats.now)) }
     ensures current { AreCurrent kept.new asking.now.hats.now }
     ensures keeps { Keeps kept.old kept.new }
+    ensures unnamed { has_context_of asking.now.key.now names.now ≡ false → kept.new ≡ kept.old }
 {
+    let alloc = kept.alloc();
+    if let Some(offers) = select_kept(asking, alloc, kept, target, best)? {
+        return Ok(offers);
+    }
     keep_if_named(asking, names, kept)?;
-    select_by(asking, kept.alloc(), kept, target, best)
+    select_by(asking, alloc, kept, target, best)
 }
 
 /// No offers of the region are kept any more, whose hat has changed. It takes no memory.
