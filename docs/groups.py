@@ -25,6 +25,7 @@ GROUPS = {
     },
     'what is promised': {
         'zq_machine': 'calls, steps, promises, laws',
+        'zq_trace': 'the headline, of the trace',
         'zq_moved': 'runs in a namespace',
         'zq_local': 'an asker and storages',
     },
