@@ -11,6 +11,7 @@ use Rattle.std.proofs.lemmas.Bool.{and_parts, or_parts, or_left, or_right}
 use Rattle.zq_message.specs.declared.message.Message.{Message}
 use Rattle.zq_message.specs.declared.message.Message.TheVariants as message
 use Rattle.zq_message.specs.declared.message.Request.{Request}
+use Rattle.zq_message.specs.declared.message.Response.{Response}
 use Rattle.zq_message.specs.declared.message.FaceId.{FaceId}
 use Rattle.zq_strategy.specs.declared.offer.QueryTargetQabl.{QueryTargetQabl}
 use Rattle.zq_query.specs.declared.records.Final.{Final}
@@ -34,7 +35,7 @@ use Rattle.zq_machine.proofs.Lists.{all_append, all_failing, all_filter, all_par
 use Rattle.zq_trace.specs.Faces.{Trace, is_closed}
 use Rattle.zq_trace.specs.Awaited.{Owed, asked_by, deadline, flight, in_flight, next_reply, owed, owed_by, owner, pending, request, requests, waits}
 use Rattle.zq_trace.specs.Selected.{Others, asked_key, select}
-use Rattle.zq_trace.specs.Expected.{Shown, error_replies, final_to, finals_of, if_open, late, next_request, open_to, replies_of, reply_says, reply_to, request_to, requests_of, shown, timed_out}
+use Rattle.zq_trace.specs.Expected.{Shown, error_replies, final_to, finals_of, if_open, late, late_reply, next_request, open_to, replies_of, reply_says, reply_to, request_to, requests_of, shown, timed_out}
 use Rattle.zq_trace.specs.Refusals.{refusal_of}
 use Rattle.zq_trace.specs.Headline.{CallHeadline, Headline, HeadlineFrom, answer, granted, if_accepted, is_numbered, kind, of_kind}
 use Rattle.zq_trace.proofs.Open.{all_at, found}
@@ -79,27 +80,17 @@ each_there {X} number front (x ∷ xs) = (here front, all_weaker _ _ (λ y it. i
     shift [] = refl
     shift (f ∷ front) = ap (λ l. f ∷ l) (shift front)
 
--- ---- the numbers of what a call hands
-module _ (Q : Option ℕ → Type 0) (bare : Q None) where
-  abbrev Handeds : List Handed → Type 0
-  Handeds hs = AllByRecursion (λ (h : Handed). Q h.number) hs
-
+-- ---- what a call hands
+-- what is said of each message, where R is said of the request that it is of
+module _ (T : Shown → Type 0) (R : Final → Type 0) (replied : (f : Final) → R f → (k : ℕ) (r : Response) → T (reply_to f k r)) (finished : (f : Final) → R f → T (final_to f)) where
   abbrev Showns : List Shown → Type 0
-  Showns ss = AllByRecursion (λ (s : Shown). Q s.number) ss
+  Showns ss = AllByRecursion T ss
 
-  unshown : (past : Trace) (hs : List Handed) → Showns (map (shown past) hs) → Handeds hs
+  unshown : (past : Trace) (hs : List Handed) → Showns (map (shown past) hs) → AllByRecursion (λ (h : Handed). T (shown past h)) hs
   unshown past [] all = tt
   unshown past (h ∷ hs) all = (all.0, unshown past hs all.1)
 
-  bare_at : (number reply : Option ℕ) → (is_some number || is_some reply) ≡ false → Q number
-  bare_at None reply none = bare
-  bare_at (Some n) reply none = absurd (true≢false none)
-
-  unnumbered : (hs : List Handed) → AllByRecursion (λ h. is_numbered h ≡ false) hs → Handeds hs
-  unnumbered [] all = tt
-  unnumbered (h ∷ hs) all = (bare_at h.number h.reply all.0, unnumbered hs all.1)
-
-  module _ (o : Others) (config : Settings) (past : Trace) (asked : AllByRecursion (λ (f : Final). waits config past f.number ≡ true → Q (Some f.number)) (requests past)) where
+  module _ (o : Others) (config : Settings) (past : Trace) (asked : AllByRecursion (λ (f : Final). waits config past f.number ≡ true → R f) (requests past)) where
     -- a request that has an entry waits
     entry_waits : AllByRecursion (λ (e : Owed). waits config past e.0 ≡ true) (pending config past)
     entry_waits =
@@ -108,26 +99,26 @@ module _ (Q : Option ℕ → Type 0) (bare : Q None) where
         (pending config past) (each_there (λ (e : Owed). e.0) [] (pending config past))
 
     -- so what is said of its number is said
-    request_has : (m : ℕ) → waits config past m ≡ true → IfThere (λ (f : Final). Q (Some f.number)) (request past m)
-    request_has m waiting = by (request past m) (first_has (λ (f : Final). waits config past f.number ≡ true → Q (Some f.number)) (λ (f : Final). f.number == m) (requests past) asked)
+    request_has : (m : ℕ) → waits config past m ≡ true → IfThere R (request past m)
+    request_has m waiting = by (request past m) (first_has (λ (f : Final). waits config past f.number ≡ true → R f) (λ (f : Final). f.number == m) (requests past) asked)
       where
-        by : (x : Option Final) → IfThere (λ (f : Final). (waits config past f.number ≡ true → Q (Some f.number)) × ((f.number == m) ≡ true)) x → IfThere (λ (f : Final). Q (Some f.number)) x
+        by : (x : Option Final) → IfThere (λ (f : Final). (waits config past f.number ≡ true → R f) × ((f.number == m) ≡ true)) x → IfThere R x
         by None it = tt
         by (Some f) it = it.0 (ap (waits config past) (eqb-true f.number m it.1) ∙ waiting)
 
-    owner_has : (face id : ℕ) → IfThere (λ (f : Final). Q (Some f.number)) (owner config past face id)
+    owner_has : (face id : ℕ) → IfThere R (owner config past face id)
     owner_has face id = by (find (λ (e : Owed). is_entry face id e.1) (pending config past)) (first_has (λ (e : Owed). waits config past e.0 ≡ true) (λ (e : Owed). is_entry face id e.1) (pending config past) entry_waits)
       where
-        by : (x : Option Owed) → IfThere (λ (e : Owed). (waits config past e.0 ≡ true) × (is_entry face id e.1 ≡ true)) x → IfThere (λ (f : Final). Q (Some f.number)) (option_and_then (λ (e : Owed). request past e.0) x)
+        by : (x : Option Owed) → IfThere (λ (e : Owed). (waits config past e.0 ≡ true) × (is_entry face id e.1 ≡ true)) x → IfThere R (option_and_then (λ (e : Owed). request past e.0) x)
         by None it = tt
         by (Some e) it = request_has e.0 it.0
 
     -- of those alone whose asker is open
-    open_has : (x : Option Final) → IfThere (λ (f : Final). Q (Some f.number)) x → IfThere (λ (f : Final). Q (Some f.number)) (option_and_then (if_open past) x)
+    open_has : (x : Option Final) → IfThere R x → IfThere R (option_and_then (if_open past) x)
     open_has None it = tt
     open_has (Some f) it = by (is_closed past f.asker.0)
       where
-        by : (b : Bool) → IfThere (λ (g : Final). Q (Some g.number)) (cond b None (Some f))
+        by : (b : Bool) → IfThere R (cond b None (Some f))
         by true = tt
         by false = it
 
@@ -145,9 +136,9 @@ module _ (Q : Option ℕ → Type 0) (bare : Q None) where
     errors_have [] all k = tt
     errors_have (d ∷ ds) all k = by (option_and_then (if_open past) (request past d.1)) (open_has (request past d.1) (request_has d.1 all.0)) (errors_have ds all.1)
       where
-        by : (x : Option Final) → IfThere (λ (f : Final). Q (Some f.number)) x → ((n : ℕ) → Showns (error_replies past n (timeouts_in ds))) → Showns (error_replies past k (cons_option (option_map (λ f. (f, d.2)) x) (timeouts_in ds)))
+        by : (x : Option Final) → IfThere R x → ((n : ℕ) → Showns (error_replies past n (timeouts_in ds))) → Showns (error_replies past k (cons_option (option_map (λ f. (f, d.2)) x) (timeouts_in ds)))
         by None it rest = rest k
-        by (Some f) it rest = (it, rest (k + 1))
+        by (Some f) it rest = (replied f it k (late_reply past d.2), rest (k + 1))
 
     -- ---- each kind
     -- an accepted request is answered its number
@@ -158,48 +149,51 @@ module _ (Q : Option ℕ → Type 0) (bare : Q None) where
         by (Some y) e = absurd (true≢false (sym h ∙ ap is_accepted e))
         by None e = e
 
-    module _ (t : Step) where
-      requests_have : (c : Call) → CallHeadline o config past c t → AllByRecursion (λ (f : Final). Q (Some f.number)) (asked_by c t.outcome) → is_accepted t.outcome ≡ true → Showns (requests_of o config past c)
+    module _ (t : Step) (asks : (f : Final) → R f → f.number ≡ next_request config past → (r : Request) (q : List ℕ) (x : QueryTargetQabl) → T (request_to config past r q x)) where
+      requests_have : (c : Call) → CallHeadline o config past c t → AllByRecursion R (asked_by c t.outcome) → is_accepted t.outcome ≡ true → Showns (requests_of o config past c)
       requests_have (call.Request face r now) k new h =
-          let it = subst (λ a. AllByRecursion (λ (f : Final). Q (Some f.number)) (asked_by (call.Request face r now) a)) (answered_next face r now t k.answered h) new in
+          let it = subst (λ a. AllByRecursion R (asked_by (call.Request face r now) a)) (answered_next face r now t k.answered h) new in
           all_picked it.0 (select o config past face r)
         where
-          all_picked : Q (Some (next_request config past)) → (os : List QueryTargetQabl) → Showns (map (request_to config past r (unwrap_or (asked_key past face r) [])) os)
+          this : Final
+          this = record { number = next_request config past; asker = face; id = r.id; qos = r.qos }
+
+          all_picked : R this → (os : List QueryTargetQabl) → Showns (map (request_to config past r (unwrap_or (asked_key past face r) [])) os)
           all_picked it [] = tt
-          all_picked it (x ∷ os) = (it, all_picked it os)
+          all_picked it (x ∷ os) = (asks this it refl r (unwrap_or (asked_key past face r) []) x, all_picked it os)
       requests_have c k new h = tt
 
       replies_have : (c : Call) → Showns (replies_of config past c)
       replies_have (call.Response face r) = by (option_and_then (if_open past) (owner config past face.0 r.rid)) (open_has (owner config past face.0 r.rid) (owner_has face.0 r.rid))
         where
-          by : (x : Option Final) → IfThere (λ (f : Final). Q (Some f.number)) x → Showns (option_map_or (λ f. reply_to f (next_reply config past) (record r { wire = plain (full_text (reply_says past face r)) }) ∷ []) x [])
+          by : (x : Option Final) → IfThere R x → Showns (option_map_or (λ f. reply_to f (next_reply config past) (record r { wire = plain (full_text (reply_says past face r)) }) ∷ []) x [])
           by None it = tt
-          by (Some f) it = (it, tt)
+          by (Some f) it = (replied f it (next_reply config past) (record r { wire = plain (full_text (reply_says past face r)) }), tt)
       replies_have (call.Poll now) = errors_have (late config past now) (late_wait now) (next_reply config past)
       replies_have c = tt
 
-      finals_have : (c : Call) → AllByRecursion (λ (f : Final). Q (Some f.number)) (asked_by c t.outcome) → Showns (finals_of config past c t)
+      finals_have : (c : Call) → AllByRecursion R (asked_by c t.outcome) → Showns (finals_of config past c t)
       finals_have c new =
           shown_all (filter (λ (f : Final). not (waits config ((c, t) ∷ past) f.number) && not (is_closed ((c, t) ∷ past) f.asker.0)) (open_to config past c t))
-          (all_filter (λ (f : Final). Q (Some f.number)) (λ (f : Final). not (waits config ((c, t) ∷ past) f.number) && not (is_closed ((c, t) ∷ past) f.asker.0)) (open_to config past c t)
-          (all_append (λ (f : Final). Q (Some f.number)) (filter (λ (f : Final). waits config past f.number) (requests past)) (asked_by c t.outcome)
-          (all_passing (λ (f : Final). waits config past f.number ≡ true → Q (Some f.number)) (λ (f : Final). Q (Some f.number)) (λ (f : Final). waits config past f.number) (λ f waiting it. it waiting) (requests past) asked) new))
+          (all_filter R (λ (f : Final). not (waits config ((c, t) ∷ past) f.number) && not (is_closed ((c, t) ∷ past) f.asker.0)) (open_to config past c t)
+          (all_append R (filter (λ (f : Final). waits config past f.number) (requests past)) (asked_by c t.outcome)
+          (all_passing (λ (f : Final). waits config past f.number ≡ true → R f) R (λ (f : Final). waits config past f.number) (λ f waiting it. it waiting) (requests past) asked) new))
         where
-          shown_all : (fs : List Final) → AllByRecursion (λ (f : Final). Q (Some f.number)) fs → Showns (map final_to fs)
+          shown_all : (fs : List Final) → AllByRecursion R fs → Showns (map final_to fs)
           shown_all [] all = tt
-          shown_all (f ∷ fs) all = (all.0, shown_all fs all.1)
+          shown_all (f ∷ fs) all = (finished f all.0, shown_all fs all.1)
 
-      pub all_numbers : (c : Call) → CallHeadline o config past c t → AllByRecursion (λ (f : Final). Q (Some f.number)) (asked_by c t.outcome) → Handeds t.handed
-      all_numbers c k new =
-          let at : ℕ → List Handed = λ n. of_kind n t.handed in
-          let zero' : Handeds (at 0) = unshown past (at 0) (subst Showns (sym k.requests) (if_accepted_all (requests_of o config past c) (requests_have c k new))) in
-          let one' : Handeds (at 1) = unshown past (at 1) (subst Showns (sym k.replies) (if_accepted_all (replies_of config past c) (λ h. replies_have c))) in
-          let two' : Handeds (at 2) = unshown past (at 2) (subst Showns (sym k.finals) (if_accepted_all (finals_of config past c t) (λ h. finals_have c new))) in
-          let three' : Handeds (at 3) = unnumbered (at 3) (all_failing is_numbered (at 3) k.apart) in
-          subst Handeds k.ordered (all_append P (at 0 ++ at 1 ++ at 2) (at 3) (all_append P (at 0 ++ at 1) (at 2) (all_append P (at 0) (at 1) zero' one') two') three')
+      pub all_handed : (c : Call) → CallHeadline o config past c t → AllByRecursion R (asked_by c t.outcome) → AllByRecursion (λ (h : Handed). T (shown past h)) (of_kind 3 t.handed) → AllByRecursion (λ (h : Handed). T (shown past h)) t.handed
+      all_handed c k new rest =
+          let zero' = unshown past (of_kind 0 t.handed) (subst Showns (sym k.requests) (if_accepted_all (requests_of o config past c) (requests_have c k new))) in
+          let one' = unshown past (of_kind 1 t.handed) (subst Showns (sym k.replies) (if_accepted_all (replies_of config past c) (λ h. replies_have c))) in
+          let two' = unshown past (of_kind 2 t.handed) (subst Showns (sym k.finals) (if_accepted_all (finals_of config past c t) (λ h. finals_have c new))) in
+          subst (AllByRecursion P) k.ordered
+          (all_append P (of_kind 0 t.handed ++ of_kind 1 t.handed ++ of_kind 2 t.handed) (of_kind 3 t.handed)
+          (all_append P (of_kind 0 t.handed ++ of_kind 1 t.handed) (of_kind 2 t.handed) (all_append P (of_kind 0 t.handed) (of_kind 1 t.handed) zero' one') two') rest)
         where
           P : Handed → Type 0
-          P h = Q h.number
+          P h = T (shown past h)
 
           if_accepted_all : (xs : List Shown) → (is_accepted t.outcome ≡ true → Showns xs) → Showns (if_accepted t xs)
           if_accepted_all xs all = by (is_accepted t.outcome) refl
@@ -207,6 +201,22 @@ module _ (Q : Option ℕ → Type 0) (bare : Q None) where
               by : (b : Bool) → is_accepted t.outcome ≡ b → Showns (cond b xs [])
               by true h = all h
               by false h = tt
+
+-- ---- the numbers of what a call hands
+module _ (Q : Option ℕ → Type 0) (bare : Q None) where
+  bare_at : (number reply : Option ℕ) → (is_some number || is_some reply) ≡ false → Q number
+  bare_at None reply none = bare
+  bare_at (Some n) reply none = absurd (true≢false none)
+
+  unnumbered : (hs : List Handed) → AllByRecursion (λ h. is_numbered h ≡ false) hs → AllByRecursion (λ (h : Handed). Q h.number) hs
+  unnumbered [] all = tt
+  unnumbered (h ∷ hs) all = (bare_at h.number h.reply all.0, unnumbered hs all.1)
+
+  all_numbers : (o : Others) (config : Settings) (past : Trace) → AllByRecursion (λ (f : Final). waits config past f.number ≡ true → Q (Some f.number)) (requests past)
+      → (t : Step) (c : Call) → CallHeadline o config past c t → AllByRecursion (λ (f : Final). Q (Some f.number)) (asked_by c t.outcome) → AllByRecursion (λ (h : Handed). Q h.number) t.handed
+  all_numbers o config past asked t c k new =
+      all_handed (λ (s : Shown). Q s.number) (λ (f : Final). Q (Some f.number)) (λ f it reply r. it) (λ f it. it) o config past asked t
+      (λ f it is r q x. subst (λ m. Q (Some m)) is it) c k new (unnumbered (of_kind 3 t.handed) (all_failing is_numbered (of_kind 3 t.handed) k.apart))
 
 -- ---- what is over stays so
 everywhere : {X : Type 0} (P : X → Type 0) → ((x : X) → P x) → (xs : List X) → AllByRecursion P xs
