@@ -1,12 +1,13 @@
 -- Of each request one final comes at most, and nothing of it behind that, whatever calls and steps keep the headline.
 use Rattle.std.proofs.Common.{◌≡◌, ◌∙◌, refl, sym, ap, subst, ℕ, suc, ◌+◌, ◌<◌, ◌≤◌, Bool, true, false, cond, not, List, [], ◌∷◌, ◌++◌, fold, map, length, Option, Some, None, arith, true≢false, eqb-true, eq-eqb, length-append, ◌⊎◌, inl, inr}
 use Rattle.std.specs.Prelude.{◌==◌, ◌&&◌, ◌||◌, find, if◌then◌else◌, unwrap_or}
-use Rattle.std.specs.List.{AllByRecursion, cons_option, filter, filter_map, list_any}
+use Rattle.std.specs.List.{AllByRecursion, Contains, cons_option, filter, filter_map, list_any}
 use Rattle.std.specs.BTreeSet.{insert_key}
 use Rattle.std.specs.Option.{is_some, option_and_then, option_map, option_map_or}
 use Rattle.std.specs.Ordering.{match_ordering}
 use Rattle.std.specs.declared.cmp.Ordering.{Ordering}
 use Rattle.std.specs.declared.cmp.Ordering.TheVariants.{Less, Equal, Greater}
+use Rattle.std.proofs.lemmas.List.Elements.{Contains-append_left, Contains-append_right, Contains-push}
 use Rattle.std.proofs.lemmas.Bool.{and_parts, or_parts, or_left, or_right}
 use Rattle.zq_message.specs.declared.message.Message.{Message}
 use Rattle.zq_message.specs.declared.message.Message.TheVariants as message
@@ -28,16 +29,17 @@ use Rattle.zq_machine.specs.Configs.{Settings}
 use Rattle.zq_machine.specs.Deciding.{is_accepted}
 use Rattle.zq_machine.specs.Handing.{Handed}
 use Rattle.zq_machine.specs.Selecting.{full_text}
-use Rattle.zq_tables.specs.Naming.{plain}
+use Rattle.zq_tables.specs.Naming.{FaceNaming, no_names, plain}
 use Rattle.zq_machine.specs.Headline.{ends, finals_of as finals_in, finals_over, is_final}
 use Rattle.zq_machine.specs.Waiting.{ends_entry, is_of, lands}
 use Rattle.zq_machine.proofs.Lists.{all_append, all_failing, all_filter, all_parts, all_passing, all_weaker, count, count_append, count_filter, count_none, none_passing}
 use Rattle.zq_trace.specs.Faces.{Trace, is_closed}
 use Rattle.zq_trace.specs.Awaited.{Owed, asked_by, deadline, flight, in_flight, next_reply, owed, owed_by, owner, pending, request, requests, waits}
 use Rattle.zq_trace.specs.Selected.{Others, asked_key, select}
-use Rattle.zq_trace.specs.Expected.{Shown, error_replies, final_to, finals_of, if_open, late, late_reply, next_request, open_to, replies_of, reply_says, reply_to, request_to, requests_of, shown, timed_out}
+use Rattle.zq_trace.specs.Expected.{Shown, error_replies, final_to, finals_of, if_open, late, late_reply, next_request, open_to, replies_of, reply_says, reply_to, request_to, read_message, requests_of, shown, timed_out}
 use Rattle.zq_trace.specs.Refusals.{refusal_of}
 use Rattle.zq_trace.specs.Headline.{CallHeadline, Headline, HeadlineFrom, answer, granted, if_accepted, is_numbered, kind, of_kind}
+use Rattle.zq_trace.specs.Laws.{AreSilent, BackFrom, GoesBack, IsBack}
 use Rattle.zq_trace.proofs.Open.{all_at, found}
 
 -- ---- lists
@@ -490,9 +492,6 @@ module _ (o : Others) (config : Settings) (past : Trace) where
 silent_finals : (n : ℕ) (hs : List Handed) → AllByRecursion (λ (h : Handed). is_of n h ≡ false) hs → count (ends n) hs ≡ 0
 silent_finals n hs all = count_none (ends n) hs (none_passing (ends n) hs (all_weaker (λ (h : Handed). is_of n h ≡ false) (λ (h : Handed). ends n h ≡ false) (λ h it. and_false (is_final h.message) (is_of n h) it) hs all))
 
-abbrev pub AreSilent : ℕ → List Step → Type 0
-AreSilent n ts = AllByRecursion (λ (t : Step). list_any (is_of n) t.handed ≡ false) ts
-
 module _ (o : Others) (config : Settings) (n : ℕ) where
   quiet_rest : (cs : List Call) (ts : List Step) (past : Trace) → HeadlineFrom o config past cs ts → IsOver config past n → AreSilent n ts × (finals_over n ts ≡ 0)
   quiet_rest [] [] past keeps over = (tt, refl)
@@ -531,3 +530,74 @@ one_final o config calls steps keeps n = one_from o config n calls steps [] keep
 
 pub nothing_after : (o : Others) (config : Settings) (calls : List Call) (before rest : List Step) (t : Step) → Headline o config calls (before ++ t ∷ rest) → (n : ℕ) → 0 < finals_in n t → AreSilent n rest
 nothing_after o config calls before rest t keeps n some = nothing_from o config n calls before rest t [] keeps (none_numbered config) some
+
+-- ---- replies and finals go back
+all_in : {X : Type 0} (xs : List X) → AllByRecursion (Contains xs) xs
+all_in [] = tt
+all_in {X} (x ∷ xs) = (
+  Contains-append_left (x ∷ []) xs x (Contains-push [] x),
+  all_weaker (Contains xs) (Contains (x ∷ xs)) (λ y it. Contains-append_right (x ∷ []) xs y it) xs (all_in xs),
+)
+
+module _ (o : Others) (config : Settings) (past : Trace) (c : Call) (t : Step) (k : CallHeadline o config past c t) where
+  abbrev asked : List Final
+  asked = requests ((c, t) ∷ past)
+
+  abbrev Back : Shown → Type 0
+  Back s = GoesBack asked s.number s.to s.message
+
+  asking_back : (f : Final) → Contains asked f → f.number ≡ next_request config past → (r : Request) (q : List ℕ) (x : QueryTargetQabl) → Back (request_to config past r q x)
+  asking_back f it is r q x = tt
+
+  declared_back : (hs : List Handed) → AllByRecursion (λ h. is_numbered h ≡ false) (of_kind 3 hs) → AllByRecursion (λ (h : Handed). Back (shown past h)) (of_kind 3 hs)
+  declared_back [] all = tt
+  declared_back (h ∷ hs) all = by (kind h.message == 3) refl all (declared_back hs)
+    where
+      bare : (n : FaceNaming) (number reply : Option ℕ) (m : Message) → (kind m == 3) ≡ true → (is_some number || is_some reply) ≡ false → GoesBack asked number h.to (read_message n m)
+      bare n (Some i) reply m is none = absurd (true≢false none)
+      bare n None reply (message.Request r) is none = refl
+      bare n None reply (message.Response r) is none = absurd (true≢false (sym is))
+      bare n None reply (message.ResponseFinal f) is none = absurd (true≢false (sym is))
+      bare n None reply (message.Interest i) is none = refl
+      bare n None reply (message.InterestFinal i) is none = refl
+      bare n None reply (message.Declare d) is none = refl
+
+      by : (b : Bool) → (kind h.message == 3) ≡ b → AllByRecursion (λ x. is_numbered x ≡ false) (cond b (h ∷ of_kind 3 hs) (of_kind 3 hs))
+          → (AllByRecursion (λ x. is_numbered x ≡ false) (of_kind 3 hs) → AllByRecursion (λ (x : Handed). Back (shown past x)) (of_kind 3 hs))
+          → AllByRecursion (λ (x : Handed). Back (shown past x)) (cond b (h ∷ of_kind 3 hs) (of_kind 3 hs))
+      by true is it rest = (bare _ h.number h.reply h.message is it.0, rest it.1)
+      by false is it rest = rest it
+
+  unread : (hs : List Handed) → AllByRecursion (λ (h : Handed). Back (shown past h)) hs → AllByRecursion (IsBack asked) hs
+  unread [] all = tt
+  unread (h ∷ hs) all = (by _ h.number h.message all.0, unread hs all.1)
+    where
+      by : (n : FaceNaming) (number : Option ℕ) (m : Message) → GoesBack asked number h.to (read_message n m) → GoesBack asked number h.to m
+      by n None (message.Request r) it = it
+      by n None (message.Response r) it = it
+      by n None (message.ResponseFinal f) it = it
+      by n None (message.Interest i) it = it
+      by n None (message.InterestFinal i) it = it
+      by n None (message.Declare d) it = it
+      by n (Some i) (message.Request r) it = it
+      by n (Some i) (message.Response r) it = it
+      by n (Some i) (message.ResponseFinal f) it = it
+      by n (Some i) (message.Interest j) it = it
+      by n (Some i) (message.InterestFinal j) it = it
+      by n (Some i) (message.Declare d) it = it
+
+  goes_back : AllByRecursion (IsBack asked) t.handed
+  goes_back =
+      let parts = all_parts (Contains asked) (requests past) (asked_by c t.outcome) (all_in asked) in
+      unread t.handed
+      (all_handed Back (Contains asked) (λ f it reply r. it) (λ f it. it) o config past
+      (all_weaker (Contains asked) (λ (f : Final). waits config past f.number ≡ true → Contains asked f) (λ f it waiting. it) (requests past) parts.0)
+      t asking_back c k parts.1 (declared_back t.handed (all_failing is_numbered (of_kind 3 t.handed) k.apart)))
+
+back_from : (o : Others) (config : Settings) (cs : List Call) (ts : List Step) (past : Trace) → HeadlineFrom o config past cs ts → BackFrom past cs ts
+back_from o config [] ts past keeps = tt
+back_from o config (c ∷ cs) [] past keeps = tt
+back_from o config (c ∷ cs) (t ∷ ts) past keeps = (goes_back o config past c t keeps.0, back_from o config cs ts ((c, t) ∷ past) keeps.1)
+
+pub to_askers : (o : Others) (config : Settings) (calls : List Call) (steps : List Step) → Headline o config calls steps → BackFrom [] calls steps
+to_askers o config calls steps keeps = back_from o config calls steps [] keeps
