@@ -52,6 +52,8 @@ GROUPS = {
         'zq_store_main': 'the command zq store',
         'zq_program': 'workers in threads',
         'zq_main': 'the command zq',
+        'zq_spoken': 'a line in, its print out',
+        'zq_c': 'the library for C',
     },
 }
 OTHERS = {
@@ -64,6 +66,7 @@ OTHERS = {
         'zq_tests_runs': 'whole scripts with their prints',
         'zq_tests_session': 'whole scripts in namespaces',
         'zq_tests_store': 'scripts for storages',
+        'zq_tests_spoken': 'lines that are spoken',
         'zq_working': 'the program that bench/share times',
     },
 }

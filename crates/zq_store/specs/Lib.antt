@@ -8,5 +8,6 @@ pub mod Bus
 pub mod Getting
 pub mod Answered
 pub mod Lines
+pub mod Outcomes
 pub mod Printing
 pub mod Running

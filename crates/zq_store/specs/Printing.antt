@@ -1,20 +1,17 @@
 -- What is printed for the lines of a script for storages.
-use Rattle.std.specs.Prelude.{ℕ, List, [], ◌∷◌, ◌++◌, Option, Some, None, codes, length}
+use Rattle.std.specs.Prelude.{ℕ, List, [], ◌∷◌, ◌++◌, Option, Some, None, codes}
 use Rattle.std.specs.Fmt.{decimal}
 use Rattle.std.specs.List.{flat_map}
-use Rattle.zq_index.specs.Texts.{at_text}
-use Rattle.zq_message.specs.declared.message.QueryTarget.{QueryTarget}
 use Rattle.zq_io.specs.Words.{field, payload_word}
 use Rattle.zq_script.specs.Load.{load_config}
-use Rattle.zq_store.specs.Held.{delete, put}
-use Rattle.zq_store.specs.Stores.{held_at}
-use Rattle.zq_store.specs.Bus.{BusState, add_refusal, added, new_bus, put_refusal, with_change}
-use Rattle.zq_store.specs.Getting.{after_get, get_refusal, got_of}
+use Rattle.zq_store.specs.Bus.{BusState, new_bus}
+use Rattle.zq_store.specs.Outcomes.{line_after, line_outcome}
 use Rattle.zq_store.specs.declared.bus.BusRefusal.{BusRefusal}
 use Rattle.zq_store.specs.declared.bus.BusRefusal.TheVariants as refusal
 use Rattle.zq_store.specs.declared.got.GotReply.{GotReply}
 use Rattle.zq_store.specs.declared.lines.Line.{Line}
-use Rattle.zq_store.specs.declared.lines.Line.TheVariants as line
+use Rattle.zq_store.specs.declared.outcome.LineOutcome.{LineOutcome}
+use Rattle.zq_store.specs.declared.outcome.LineOutcome.TheVariants as outcome
 use Rattle.zq_store.specs.declared.stores.PutRefusal.{PutRefusal}
 use Rattle.zq_store.specs.declared.stores.PutRefusal.TheVariants as unput
 
@@ -49,41 +46,19 @@ reply_words r = payload_word r.key ++ field (payload_word r.value) ++ 10 ∷ []
 abbrev pub got_words : List GotReply → List ℕ
 got_words replies = flat_map reply_words replies ++ codes "end\n"
 
--- ---- what each line prints, and the bus after it
+-- ---- what each line prints
 
--- the bus, unless the line is refused
-abbrev pub unless : {E : Type 0} → Option E → BusState → BusState → BusState
-unless None new old = new
-unless (Some e) new old = old
-
--- a storage that joins: `storage N`, by its number
-abbrev pub storage_print : BusState → Option BusRefusal → List ℕ
-storage_print b None = codes "storage " ++ decimal (length b.stores) ++ 10 ∷ []
-storage_print b (Some e) = refused_words (refusal_name e)
-
--- a put or a delete: the value before
-abbrev pub change_print : ℕ → List ℕ → BusState → Option PutRefusal → List ℕ
-change_print store key b None = old_words (at_text key (held_at b.stores store))
-change_print store key b (Some e) = refused_words (put_name e)
-
--- a get, at moment 0: the replies
-abbrev pub get_print : List ℕ → QueryTarget → BusState → Option BusRefusal → List ℕ
-get_print key target b None = got_words (got_of b key target 0).replies
-get_print key target b (Some e) = refused_words (refusal_name e)
+-- what comes of a line: `storage N`, by the number of one that joined; the value before; the replies; or the refusal
+abbrev pub outcome_words : LineOutcome → List ℕ
+outcome_words (outcome.Joined s) = codes "storage " ++ decimal s.0 ++ 10 ∷ []
+outcome_words (outcome.Changed before) = old_words before
+outcome_words (outcome.Got replies) = got_words replies
+outcome_words (outcome.Refused e) = refused_words (refusal_name e)
+outcome_words (outcome.PutRefused e) = refused_words (put_name e)
 
 -- what a line prints
 abbrev pub line_print : BusState → Line → List ℕ
-line_print b (line.Storage key complete) = storage_print b (add_refusal b)
-line_print b (line.Put store key value) = change_print store key b (put_refusal store key b)
-line_print b (line.Delete store key) = change_print store key b (put_refusal store key b)
-line_print b (line.Get key target) = get_print key target b (get_refusal key b)
-
--- the bus after a line
-abbrev pub line_after : BusState → Line → BusState
-line_after b (line.Storage key complete) = unless (add_refusal b) (added key complete b) b
-line_after b (line.Put store key value) = unless (put_refusal store key b) (with_change store (put key value) b) b
-line_after b (line.Delete store key) = unless (put_refusal store key b) (with_change store (delete key) b) b
-line_after b (line.Get key target) = unless (get_refusal key b) (after_get b key target 0) b
+line_print b l = outcome_words (line_outcome b l)
 
 -- what lines print, one after another
 abbrev pub lines_print : BusState → List Line → List ℕ

@@ -10,7 +10,8 @@
 //! - `asking`: the calls of a get
 //! - `bus`: the gateway with its asker and its storages
 //! - `lines`: what the lines of a script for storages say
-//! - `printing`: what is printed for them, while they are done
+//! - `outcome`: what these lines come to
+//! - `printing`: what is printed of it
 //! - `running`: reads a script from a source, and gives its print to a sink
 //! - `laws`: which storages a pair's key leads to
 #![tactic(auto)]
@@ -23,7 +24,8 @@ mod held;
 mod joining;
 pub mod laws;
 pub mod lines;
-mod printing;
+pub mod outcome;
+pub mod printing;
 mod room;
 pub mod running;
 pub mod storage;

@@ -127,7 +127,7 @@ fn line_by(alloc: Global, head: &[u8], bytes: &[u8]) -> Result<Line, Stop>
 }
 
 /// What a line says.
-fn line_of(alloc: Global, text: &[u8]) -> Result<Line, Stop>
+pub fn line_of(alloc: Global, text: &[u8]) -> Result<Line, Stop>
     ensures { Reads result (line_of text.now) }
 {
     let (head, rest) = text.split_at(len_to(b' ', text));

@@ -3,21 +3,19 @@ ghost use Rattle.std.specs.Prelude.{◌≡◌, ◌++◌, ◌∷◌, [], IfOk, On
 ghost use Rattle.std.specs.Fmt.{decimal};
 ghost use Rattle.std.specs.List.{flat_map};
 ghost use Rattle.zq_script.specs.Load.{load_config};
-ghost use Rattle.zq_store.specs.Bus.{add_refusal, added, new_bus, put_refusal, with_change};
-ghost use Rattle.zq_store.specs.Getting.{after_get, get_refusal};
-ghost use Rattle.zq_store.specs.Held.{delete, put};
-ghost use Rattle.zq_store.specs.Printing.{change_print, get_print, got_words, line_after, line_print, lines_print, old_words, put_name, refusal_name, refused_words, reply_words, script_print, storage_print, unless};
+ghost use Rattle.zq_store.specs.Bus.{new_bus};
+ghost use Rattle.zq_store.specs.Outcomes.{line_after};
+ghost use Rattle.zq_store.specs.Printing.{got_words, line_print, lines_print, old_words, outcome_words, put_name, refusal_name, refused_words, reply_words, script_print};
 
 use crate::bus::{Bus, BusRefusal};
 use crate::got::{GotReply, StoreId};
 use crate::lines::Line;
+use crate::outcome::{LineOutcome, do_line};
 use crate::stores::PutRefusal;
 use std::alloc::Global;
 use zq_io::show::push_field;
 use zq_io::words::{push_number, push_text, push_word};
-use zq_key::Key;
 use zq_key::memory::OutOfMemory;
-use zq_key::message::QueryTarget;
 use zq_key::text::Bytes;
 use zq_script::load_config;
 
@@ -99,66 +97,16 @@ fn push_got(out: &mut Vec<u8>, replies: &[GotReply]) -> Result<(), OutOfMemory>
     Ok(())
 }
 
-/// A storage joins.
-fn print_storage(
-    bus: &mut Bus,
-    out: &mut Vec<u8>,
-    key: &Key,
-    complete: bool,
-) -> Result<(), OutOfMemory>
-    ensures print { OnOk result (out.new.items ≡ out.old.items ++ storage_print bus.old (add_refusal bus.old)) }
-    ensures after { OnOk result (bus.new ≡ unless (add_refusal bus.old) (added key.now complete bus.old) bus.old) }
+/// Writes what comes of a line.
+pub fn push_outcome(out: &mut Vec<u8>, outcome: &LineOutcome) -> Result<(), OutOfMemory>
+    ensures { OnOk result (out.new.items ≡ out.old.items ++ outcome_words outcome.now) }
 {
-    match bus.add(key, complete) {
-        Ok(store) => push_store(out, store),
-        Err(BusRefusal::OutOfMemory) => Err(OutOfMemory),
-        Err(refusal) => push_refused(out, refusal_name(refusal)),
-    }
-}
-
-/// A storage has a value from now on.
-fn print_put(
-    bus: &mut Bus,
-    out: &mut Vec<u8>,
-    store: u32,
-    key: &Key,
-    value: &Bytes,
-) -> Result<(), OutOfMemory>
-    ensures print { OnOk result (out.new.items ≡ out.old.items ++ change_print store key.now bus.old (put_refusal store key.now bus.old)) }
-    ensures after { OnOk result (bus.new ≡ unless (put_refusal store key.now bus.old) (with_change store (put key.now value.now) bus.old) bus.old) }
-{
-    match bus.put(StoreId(store), key, value) {
-        Ok(before) => push_old(out, &before),
-        Err(PutRefusal::OutOfMemory) => Err(OutOfMemory),
-        Err(refusal) => push_refused(out, put_name(refusal)),
-    }
-}
-
-/// A storage has no value from now on.
-fn print_delete(bus: &mut Bus, out: &mut Vec<u8>, store: u32, key: &Key) -> Result<(), OutOfMemory>
-    ensures print { OnOk result (out.new.items ≡ out.old.items ++ change_print store key.now bus.old (put_refusal store key.now bus.old)) }
-    ensures after { OnOk result (bus.new ≡ unless (put_refusal store key.now bus.old) (with_change store (delete key.now) bus.old) bus.old) }
-{
-    match bus.delete(StoreId(store), key) {
-        Ok(before) => push_old(out, &before),
-        Err(refusal) => push_refused(out, put_name(refusal)),
-    }
-}
-
-/// A get, at moment 0.
-fn print_get(
-    bus: &mut Bus,
-    out: &mut Vec<u8>,
-    key: &Key,
-    target: QueryTarget,
-) -> Result<(), OutOfMemory>
-    ensures print { OnOk result (out.new.items ≡ out.old.items ++ get_print key.now target bus.old (get_refusal key.now bus.old)) }
-    ensures after { OnOk result (bus.new ≡ unless (get_refusal key.now bus.old) (after_get bus.old key.now target 0) bus.old) }
-{
-    match bus.get(key, target, 0) {
-        Ok(got) => push_got(out, got.replies.as_slice()),
-        Err(BusRefusal::OutOfMemory) => Err(OutOfMemory),
-        Err(refusal) => push_refused(out, refusal_name(refusal)),
+    match outcome {
+        LineOutcome::Joined(store) => push_store(out, *store),
+        LineOutcome::Changed(before) => push_old(out, before),
+        LineOutcome::Got(replies) => push_got(out, replies.as_slice()),
+        LineOutcome::Refused(refusal) => push_refused(out, refusal_name(*refusal)),
+        LineOutcome::PutRefused(refusal) => push_refused(out, put_name(*refusal)),
     }
 }
 
@@ -167,11 +115,9 @@ fn print_line(bus: &mut Bus, out: &mut Vec<u8>, line: &Line) -> Result<(), OutOf
     ensures print { OnOk result (out.new.items ≡ out.old.items ++ line_print bus.old line.now) }
     ensures after { OnOk result (bus.new ≡ line_after bus.old line.now) }
 {
-    match line {
-        Line::Storage { key, complete } => print_storage(bus, out, key, *complete),
-        Line::Put { store, key, value } => print_put(bus, out, *store, key, value),
-        Line::Delete { store, key } => print_delete(bus, out, *store, key),
-        Line::Get { key, target } => print_get(bus, out, key, *target),
+    match do_line(bus, line) {
+        Ok(outcome) => push_outcome(out, &outcome),
+        Err(_) => Err(OutOfMemory),
     }
 }
 

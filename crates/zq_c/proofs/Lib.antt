@@ -1,0 +1,4 @@
+pub mod AsBox
+pub mod Crossing
+pub mod Holding
+pub mod Telling

@@ -1,7 +1,0 @@
-use Rattle.std.proofs.Common.{◌≡◌, subst, sym}
-use Rattle.std.specs.Prelude.{OnOk}
-use Rattle.zq_store.specs.Printing.{line_after}
-use Rattle.zq_store.proofs.printing.print_line.Goals as goal
-
-pub returns-in-Storage-clause-after : goal.returns-in-Storage-clause-after
-returns-in-Storage-clause-after c = subst (λ l. OnOk c.print_storage.result (c.print_storage.new.bus ≡ line_after c.args.bus.now l)) (sym c.in-Storage.is) c.print_storage.ensures.after
