@@ -1,5 +1,5 @@
 //! What the lines of a script for storages come to.
-ghost use Rattle.std.specs.Prelude.{◌≡◌, Err, IfOk, OnOk, OnErr};
+ghost use Rattle.std.specs.Prelude.{◌≡◌, Err, IfOk, IfErr, OnOk};
 ghost use Rattle.zq_store.specs.Bus.{IsSpent, add_refusal, added, put_refusal, with_change};
 ghost use Rattle.zq_store.specs.Getting.{after_get, get_refusal};
 ghost use Rattle.zq_store.specs.Held.{delete, put};
@@ -10,7 +10,6 @@ use crate::got::{GotList, StoreId};
 use crate::lines::Line;
 use crate::stores::PutRefusal;
 use zq_key::Key;
-use zq_key::memory::OutOfMemory;
 use zq_key::message::QueryTarget;
 use zq_key::text::Bytes;
 
@@ -38,34 +37,34 @@ pub enum Lack {
     Spent,
 }
 
-/// A storage joins.
+/// A storage joins. Where no memory is found, the bus is spent.
 #[tactic(auto, using(crate::proofs::Outcomes::joined_at, crate::proofs::Outcomes::add_spent))]
-fn join_storage(bus: &mut Bus, key: &Key, complete: bool) -> Result<LineOutcome, OutOfMemory>
+fn join_storage(bus: &mut Bus, key: &Key, complete: bool) -> Result<LineOutcome, Lack>
     ensures outcome { IfOk result (λ o. o ≡ storage_outcome bus.old (add_refusal bus.old)) }
     ensures after { OnOk result (bus.new ≡ unless (add_refusal bus.old) (added key.now complete bus.old) bus.old) }
-    ensures spent { OnErr result (IsSpent bus.old bus.new) }
+    ensures lack { IfErr result (λ e. (e ≡ Lack.Spent) × IsSpent bus.old bus.new) }
 {
     match bus.add(key, complete) {
         Ok(store) => Ok(LineOutcome::Joined(store)),
-        Err(BusRefusal::OutOfMemory) => Err(OutOfMemory),
+        Err(BusRefusal::OutOfMemory) => Err(Lack::Spent),
         Err(refusal) => Ok(LineOutcome::Refused(refusal)),
     }
 }
 
-/// A storage has a value from now on.
+/// A storage has a value from now on. Where no memory is found, nothing changes.
 fn put_value(
     bus: &mut Bus,
     store: u32,
     key: &Key,
     value: &Bytes,
-) -> Result<LineOutcome, OutOfMemory>
+) -> Result<LineOutcome, Lack>
     ensures outcome { IfOk result (λ o. o ≡ change_outcome store key.now bus.old (put_refusal store key.now bus.old)) }
     ensures after { OnOk result (bus.new ≡ unless (put_refusal store key.now bus.old) (with_change store (put key.now value.now) bus.old) bus.old) }
-    ensures kept { OnErr result (bus.new ≡ bus.old) }
+    ensures lack { IfErr result (λ e. (e ≡ Lack.Kept) × (bus.new ≡ bus.old)) }
 {
     match bus.put(StoreId(store), key, value) {
         Ok(before) => Ok(LineOutcome::Changed(before)),
-        Err(PutRefusal::OutOfMemory) => Err(OutOfMemory),
+        Err(PutRefusal::OutOfMemory) => Err(Lack::Kept),
         Err(refusal) => Ok(LineOutcome::PutRefused(refusal)),
     }
 }
@@ -81,16 +80,16 @@ fn delete_value(bus: &mut Bus, store: u32, key: &Key) -> LineOutcome
     }
 }
 
-/// A get, at moment 0.
+/// A get, at moment 0. Where no memory is found, the bus is spent.
 #[tactic(auto, using(crate::proofs::Outcomes::get_spent))]
-fn get_values(bus: &mut Bus, key: &Key, target: QueryTarget) -> Result<LineOutcome, OutOfMemory>
+fn get_values(bus: &mut Bus, key: &Key, target: QueryTarget) -> Result<LineOutcome, Lack>
     ensures outcome { IfOk result (λ o. o ≡ get_outcome key.now target bus.old (get_refusal key.now bus.old)) }
     ensures after { OnOk result (bus.new ≡ unless (get_refusal key.now bus.old) (after_get bus.old key.now target 0) bus.old) }
-    ensures spent { OnErr result (IsSpent bus.old bus.new) }
+    ensures lack { IfErr result (λ e. (e ≡ Lack.Spent) × IsSpent bus.old bus.new) }
 {
     match bus.get(key, target, 0) {
         Ok(got) => Ok(LineOutcome::Got(got.replies)),
-        Err(BusRefusal::OutOfMemory) => Err(OutOfMemory),
+        Err(BusRefusal::OutOfMemory) => Err(Lack::Spent),
         Err(refusal) => Ok(LineOutcome::Refused(refusal)),
     }
 }
@@ -103,13 +102,9 @@ pub fn do_line(bus: &mut Bus, line: &Line) -> Result<LineOutcome, Lack>
     ensures spent { result ≡ Err Lack.Spent → IsSpent bus.old bus.new }
 {
     match line {
-        Line::Storage { key, complete } => {
-            join_storage(bus, key, *complete).map_err(|_| Lack::Spent)
-        }
-        Line::Put { store, key, value } => {
-            put_value(bus, *store, key, value).map_err(|_| Lack::Kept)
-        }
+        Line::Storage { key, complete } => join_storage(bus, key, *complete),
+        Line::Put { store, key, value } => put_value(bus, *store, key, value),
         Line::Delete { store, key } => Ok(delete_value(bus, *store, key)),
-        Line::Get { key, target } => get_values(bus, key, *target).map_err(|_| Lack::Spent),
+        Line::Get { key, target } => get_values(bus, key, *target),
     }
 }
