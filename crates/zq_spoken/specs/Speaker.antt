@@ -1,9 +1,8 @@
 -- What is spoken to by lines.
 use Rattle.std.specs.Prelude.{◌≡◌, ℕ, List, Option, None, Result, Ok, Err, IsSomeAnd}
 use Rattle.zq_gateway.specs.Deadline.{IsNextDeadline}
-use Rattle.zq_store.specs.Bus.{IsSpent}
 use Rattle.zq_spoken.specs.Line.{asked, said}
-use Rattle.zq_spoken.specs.Storages.{Did, DidTell, Stocked}
+use Rattle.zq_spoken.specs.Storages.{Did, DidTell, Spends, Stocked}
 use Rattle.zq_spoken.specs.Storages as storages
 use Rattle.zq_spoken.specs.Talk.{Answered, Spoken, Told}
 use Rattle.zq_spoken.specs.Talk as talk
@@ -48,9 +47,9 @@ abbrev pub IsNoLine : Speaker → List ℕ → Type 0
 IsNoLine (speaker.Gateway s) line = said line ≡ None
 IsNoLine (speaker.Bus s) line = asked line ≡ None
 
--- no memory was found, and the bus is spent by it
+-- no memory was found, and the bus is spent by it; what came of its last line stays
 abbrev pub IsSpentBus : Speaker → Speaker → Type 0
-IsSpentBus (speaker.Bus s) (speaker.Bus then) = IsSpent s.bus then.bus
+IsSpentBus (speaker.Bus s) (speaker.Bus then) = Spends s then
 IsSpentBus (speaker.Bus s) (speaker.Gateway then) = ⊥
 IsSpentBus (speaker.Gateway s) then = ⊥
 

@@ -1,7 +1,7 @@
 -- A bus of storages that is spoken to by lines.
 use Rattle.std.specs.Prelude.{◌≡◌, ℕ, List, [], Option, Some, None, Result, Ok, Err}
 use Rattle.zq_machine.specs.Configs.{Settings}
-use Rattle.zq_store.specs.Bus.{BusState, new_bus, new_refusal}
+use Rattle.zq_store.specs.Bus.{BusState, IsSpent, new_bus, new_refusal}
 use Rattle.zq_store.specs.Outcomes.{line_after, line_outcome}
 use Rattle.zq_store.specs.Printing.{outcome_words}
 use Rattle.zq_store.specs.declared.bus.BusRefusal.{BusRefusal}
@@ -42,6 +42,12 @@ opens bytes = bind_config bytes opened
 pub record Did (s then : Stocked) (l : Line) : Type 0 where
   pub bus : then.bus ≡ line_after s.bus l
   pub outcome : then.outcome ≡ Some (line_outcome s.bus l)
+
+-- no memory was found amid a line: the bus is spent by it, and what came of the line before stays, as its print does
+pub record Spends (s then : Stocked) : Type 0 where
+  pub bus : IsSpent s.bus then.bus
+  pub outcome : then.outcome ≡ s.outcome
+  pub print : then.print ≡ s.print
 
 -- what came of a line is printed
 abbrev pub printed_by : Option LineOutcome → Stocked → Stocked

@@ -3,7 +3,7 @@ ghost use Rattle.std.specs.Prelude.{◌≡◌, ◌⊎◌, Some, None, Err, OnOk,
 ghost use Rattle.zq_io.specs.Words.{Reads};
 ghost use Rattle.zq_spoken.specs.Line.{asked};
 ghost use Rattle.zq_spoken.specs.Opening.{Opens};
-ghost use Rattle.zq_spoken.specs.Storages.{Did, opened, opens, printed};
+ghost use Rattle.zq_spoken.specs.Storages.{Did, Spends, opened, opens, printed};
 ghost use Rattle.zq_spoken.specs.declared.refusal.LineRefusal.TheVariants as refusal;
 ghost use Rattle.zq_store.specs.Bus.{IsSpent};
 ghost use Rattle.zq_store.specs.Outcomes.{line_after, line_outcome};
@@ -88,6 +88,8 @@ impl Storages {
         ensures outcome { OnOk result (self.new.outcome ≡ Some (line_outcome self.old.bus line.now)) }
         ensures kept { result ≡ Err Lack.Kept → self.new ≡ self.old }
         ensures spent { result ≡ Err Lack.Spent → IsSpent self.old.bus self.new.bus }
+        ensures before { OnErr result (self.new.outcome ≡ self.old.outcome) }
+        ensures print { OnErr result (self.new.print ≡ self.old.print) }
     {
         let outcome = do_line(&mut self.bus, line)?;
         self.outcome = Some(outcome);
@@ -101,7 +103,7 @@ impl Storages {
         ensures made { OnOk result (IsSomeAnd (asked line.now) (λ l. Did self.old self.new l)) }
         ensures bad { result ≡ Err refusal.Bad → asked line.now ≡ None }
         ensures kept { (result ≡ Err refusal.Bad) ⊎ (result ≡ Err refusal.OutOfMemory) → self.new ≡ self.old }
-        ensures spent { result ≡ Err refusal.Spent → IsSpent self.old.bus self.new.bus }
+        ensures spent { result ≡ Err refusal.Spent → Spends self.old self.new }
     {
         match asked(alloc, line) {
             Ok(line) => match self.make(&line) {
