@@ -52,12 +52,7 @@ fn join_storage(bus: &mut Bus, key: &Key, complete: bool) -> Result<LineOutcome,
 }
 
 /// A storage has a value from now on. Where no memory is found, nothing changes.
-fn put_value(
-    bus: &mut Bus,
-    store: u32,
-    key: &Key,
-    value: &Bytes,
-) -> Result<LineOutcome, Lack>
+fn put_value(bus: &mut Bus, store: u32, key: &Key, value: &Bytes) -> Result<LineOutcome, Lack>
     ensures outcome { IfOk result (λ o. o ≡ change_outcome store key.now bus.old (put_refusal store key.now bus.old)) }
     ensures after { OnOk result (bus.new ≡ unless (put_refusal store key.now bus.old) (with_change store (put key.now value.now) bus.old) bus.old) }
     ensures lack { IfErr result (λ e. (e ≡ Lack.Kept) × (bus.new ≡ bus.old)) }
