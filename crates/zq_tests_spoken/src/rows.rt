@@ -4,8 +4,8 @@ use zq_spoken::{Speaker, key_includes, keys_meet};
 
 const HEAD: &str = "config 1 10000 north:client local\nstart 0 0 0 0 0\n";
 
-/// Lines, each with its print; None is a bad line.
-const LINES: [(&str, Option<&str>); 10] = [
+/// Lines up to a request that waits, each with its print; None is a bad line.
+const ASKED: [(&str, Option<&str>); 6] = [
     ("open local 10 client north -", Some("= opened 0\n")),
     ("open local 11 client north -", Some("= opened 1\n")),
     ("queryable 0 1 0:s:k c 0 0", Some("= done\n")),
@@ -15,6 +15,10 @@ const LINES: [(&str, Option<&str>); 10] = [
         "ask 1 7 0:s:k all - 0 0 hi 5",
         Some("= asked 0\n> 0 0 - request 1 0:s:k all - 0 0 hi\n"),
     ),
+];
+
+/// Lines from there to the request's end.
+const ENDED: [(&str, Option<&str>); 4] = [
     (
         "reply 0 1 0:s:k ok yo",
         Some("= replied 0\n> 1 0 0 response 7 0:s:k 0 ok yo -\n"),
@@ -40,11 +44,12 @@ fn what_lines_print(rt: HostRuntime) -> Result<(), OpenRefusal> {
     let alloc = rt.alloc();
     let mut speaker = Speaker::open_gateway(alloc, HEAD.as_bytes())?;
     assert_eq!(rt; speaker.next_deadline(), None);
-    for (line, print) in LINES {
+    for (line, print) in ASKED {
         assert!(rt; has_print(alloc, &mut speaker, line, print), "{line}");
-        if line == "ask 1 7 0:s:k all - 0 0 hi 5" {
-            assert_eq!(rt; speaker.next_deadline(), Some(10005));
-        }
+    }
+    assert_eq!(rt; speaker.next_deadline(), Some(10005));
+    for (line, print) in ENDED {
+        assert!(rt; has_print(alloc, &mut speaker, line, print), "{line}");
     }
     assert_eq!(rt; speaker.next_deadline(), None);
     Ok(())
