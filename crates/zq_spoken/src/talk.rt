@@ -10,6 +10,7 @@ ghost use Rattle.zq_machine.specs.State.{opening_state};
 ghost use Rattle.zq_spoken.specs.Line.{said};
 ghost use Rattle.zq_spoken.specs.Opening.{Opens, config_of};
 ghost use Rattle.zq_spoken.specs.Talk.{Answered, fresh, opens, printed};
+ghost use Rattle.zq_trace.specs.Machine.{RunHeadline};
 
 use crate::line::is_line;
 use crate::opening::config_of;
@@ -53,7 +54,8 @@ impl Model for Talk {
 /// The gateway of a configuration, before any call.
 fn begun(alloc: Global, config: &Config) -> Result<Talk, OutOfMemory>
     ensures fresh { IfOk result (λ s. s ≡ fresh (opening_state config.now)) }
-    ensures headline { IfOk result (λ _. (calls : List Call) → RunPromise config.now calls) }
+    ensures headline { IfOk result (λ _. (calls : List Call) → RunHeadline config.now calls) }
+    ensures promise { IfOk result (λ _. (calls : List Call) → RunPromise config.now calls) }
 {
     Ok(Talk {
         gateway: Gateway::new(alloc, config)?,
@@ -74,10 +76,11 @@ fn said(alloc: Global, bytes: &[u8]) -> Result<Call, Stop>
 
 impl Talk {
     /// A gateway of the configuration that a script's lines before its calls say. Whatever calls are
-    /// made on it, one after another, each keeps the promises of a run.
+    /// made on it, one after another, their steps keep the headline, and each call the promises of a run.
     pub fn open(alloc: Global, head: &[u8]) -> Result<Talk, OpenRefusal>
         ensures opened { Opens result (opens head.now) }
-        ensures headline { OnOk result (IfOk (config_of head.now) (λ c. (calls : List Call) → RunPromise c calls)) }
+        ensures headline { OnOk result (IfOk (config_of head.now) (λ c. (calls : List Call) → RunHeadline c calls)) }
+        ensures promise { OnOk result (IfOk (config_of head.now) (λ c. (calls : List Call) → RunPromise c calls)) }
     {
         let config = config_of(alloc, head)?;
         Ok(begun(alloc, &config)?)
