@@ -1,0 +1,4 @@
+pub mod Called
+pub mod Completed
+pub mod Ended
+pub mod Reported
