@@ -12,7 +12,7 @@ use Rattle.zq_admin.specs.declared.refusal.AdminRefusal.{AdminRefusal}
 use Rattle.zq_admin.specs.declared.refusal.AdminRefusal.TheVariants as refusal
 use Rattle.zq_admin.specs.Entries.{Entry}
 use Rattle.zq_admin.specs.Admin.{Answers, AnswersStep, Calls, IsAsked}
-use Rattle.zq_admin.specs.Answering.{answered, asked_own, called, due, entries_asked, entries_due, first_asked, first_made, going_on, with_answer}
+use Rattle.zq_admin.specs.Answering.{answered, asked_own, called, due, entries_asked, entries_due, first_made, going_on, with_answer}
 
 -- a request that is there is answered by the entries that were found for it
 pub some_answered : (own : FaceId) (o : Option Request) (rid : ℕ) (found : Result (List Entry) OutOfMemory) (items : List Step) (t : Step) (s left : State) (r : Result (List Step) AdminRefusal) → IsAsked s o rid found → items ≡ t ∷ []

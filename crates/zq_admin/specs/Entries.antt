@@ -1,6 +1,10 @@
 -- The administration view: who declared which key, and who asks for it, under keys of the gateway's own, and their lines.
 use Rattle.std.specs.Prelude.{ℕ, Bool, ◌&&◌, List, [], ◌∷◌, ◌++◌, codes, filter, map}
+use Rattle.std.specs.Cmp.Lexicographic.{slice_cmp}
 use Rattle.std.specs.List.{flat_map}
+use Rattle.std.specs.List.Sorted.{IsStrictlySortedBy}
+use Rattle.std.specs.Map.{keys_of}
+use Rattle.std.specs.Ordering.{nat_cmp}
 use Rattle.zq_key.specs.Key.{intersects, is_key}
 use Rattle.zq_key.specs.Space.{behind}
 use Rattle.zq_io.specs.Words.{field, payload_word}
@@ -47,6 +51,10 @@ is_met key e = is_key e.0 && intersects key e.0
 -- the entries whose keys meet the key
 abbrev pub entries_met : List ℕ → State → List Entry
 entries_met key s = filter (is_met key) (entries s)
+
+-- the keys stand in the order of their bytes, each once
+abbrev pub AreInOrder : List Entry → Type 0
+AreInOrder es = IsStrictlySortedBy (slice_cmp nat_cmp) (keys_of es)
 
 -- ---- their lines
 

@@ -1,6 +1,6 @@
 //! The entries whose keys meet a key.
 ghost use Rattle.std.specs.Prelude.{◌≡◌, ◌++◌, IfOk, OnOk, filter};
-ghost use Rattle.zq_admin.specs.Entries.{entries_met, entries_under, is_met};
+ghost use Rattle.zq_admin.specs.Entries.{AreInOrder, entries_met, entries_under, is_met};
 
 use crate::fronts::{behind, front};
 use std::alloc::Global;
@@ -32,11 +32,9 @@ fn add_met(
     Ok(())
 }
 
-/// The entries whose keys meet the key, in the order of their keys: under `@/ZID/MODE/querier/KEY` who asks
-/// to hear of a key, and under `@/ZID/MODE/queryable/KEY` who declared it, as in zenoh's administration
-/// space. ZID is the gateway's own id in decimal, and MODE the mode of North.
-pub fn list(alloc: Global, gateway: &Gateway, key: &Key) -> Result<AdminList, OutOfMemory>
-    ensures entries { IfOk result (λ l. l ≡ entries_met key.now gateway.now) }
+/// The entries whose keys meet the key.
+fn entries_met(alloc: Global, gateway: &Gateway, key: &Key) -> Result<AdminList, OutOfMemory>
+    ensures { IfOk result (λ l. l ≡ entries_met key.now gateway.now) }
 {
     let own = Source {
         zid: gateway.zid(),
@@ -60,4 +58,14 @@ pub fn list(alloc: Global, gateway: &Gateway, key: &Key) -> Result<AdminList, Ou
         gateway.sourced_queryables()?,
     )?;
     Ok(list)
+}
+
+/// The entries whose keys meet the key, in the order of their keys: under `@/ZID/MODE/querier/KEY` who asks
+/// to hear of a key, and under `@/ZID/MODE/queryable/KEY` who declared it, as in zenoh's administration
+/// space. ZID is the gateway's own id in decimal, and MODE the mode of North.
+pub fn list(alloc: Global, gateway: &Gateway, key: &Key) -> Result<AdminList, OutOfMemory>
+    ensures entries { IfOk result (λ l. l ≡ entries_met key.now gateway.now) }
+    ensures ordered { IfOk result AreInOrder }
+{
+    entries_met(alloc, gateway, key)
 }

@@ -1,4 +1,4 @@
-use Rattle.std.proofs.Common.{◌≡◌, ◌∙◌, sym, ap}
+use Rattle.std.proofs.Common.{◌∙◌, sym, ap}
 use Rattle.std.specs.Vec.Iter.{into_iter_items}
 use Rattle.zq_admin.specs.Answering.{Made}
 use Rattle.zq_admin.proofs.Reported.{on_err}
