@@ -25,12 +25,14 @@ GROUPS = {
     },
     'what is promised': {
         'zq_machine': 'calls, steps, promises, laws',
+        'zq_trace': 'the headline, of the trace',
         'zq_moved': 'runs in a namespace',
         'zq_local': 'an asker and storages',
     },
     'the gateway': {
         'zq_dispatcher': 'all hats, what is due',
         'zq_egress': 'messages and exits',
+        'zq_kept': 'offers that are kept',
         'zq_gateway': 'the calls, whole runs',
     },
     'threads': {

@@ -1,15 +1,16 @@
 //! The gateway: each call is one event.
 #![tactic(auto, using(crate::proofs::Reached::reached_given))]
 
-ghost use Rattle.std.specs.Prelude.{ℕ, List, length, IfErr, IfNone, IfSome, ◌≡◌, ◌<◌, ◌≤◌, [], true, false, IfOk};
+ghost use Rattle.std.specs.Prelude.{ℕ, List, length, None, IfErr, IfNone, IfSome, ◌≡◌, ◌<◌, ◌≤◌, [], true, false, IfOk};
 ghost use Rattle.std.specs.List.{cons_option};
 ghost use Rattle.zq_query.specs.Records.{flies, pending_count};
 ghost use Rattle.zq_machine.specs.Asked.{replies_of};
-ghost use Rattle.zq_machine.specs.Configs.{north_of};
+ghost use Rattle.zq_machine.specs.Configs.{bad_config, north_of};
 ghost use Rattle.zq_machine.specs.declared.call.Call.TheVariants as call;
 ghost use Rattle.zq_machine.specs.Calls.{declared_call};
 ghost use Rattle.zq_machine.specs.declared.call.Call.{Call};
 ghost use Rattle.zq_machine.specs.Headline.{RunPromise};
+ghost use Rattle.zq_trace.specs.Machine.{RunHeadline};
 ghost use Rattle.zq_machine.specs.Machine.{after, done, refused_step, step};
 ghost use Rattle.zq_machine.specs.State.{opening_state};
 ghost use Rattle.zq_tables.specs.Naming.{has_context};
@@ -58,11 +59,14 @@ impl Model for Gateway {
 
 impl Gateway {
     /// A gateway of this configuration, before any call. Whatever calls are made on it, one after
-    /// another, each keeps the promises of a run.
+    /// another, their steps keep the headline, and each call the promises of a run.
     pub fn new(alloc: Global, config: &Config) -> Result<Gateway, OutOfMemory>
         ensures opening { IfOk result (λ g. g ≡ opening_state config.now) }
-        ensures headline { IfOk result (λ _. (calls : List Call) → RunPromise config.now calls) }
+        ensures headline { IfOk result (λ _. (calls : List Call) → RunHeadline config.now calls) }
+        ensures promise { IfOk result (λ _. (calls : List Call) → RunPromise config.now calls) }
+        ensures valid { IfOk result (λ _. bad_config config.now.entries ≡ None) }
     {
+        let _valid = config.entries();
         Ok(Gateway {
             tables: Tables::new(alloc, config)?,
         })

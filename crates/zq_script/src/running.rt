@@ -3,6 +3,7 @@ ghost use Rattle.std.specs.Prelude.{◌≡◌, ◌≢◌, ◌↔◌, ◌≤◌, 
 ghost use Rattle.std.specs.Fmt.{decimal};
 ghost use Rattle.std.specs.Io.KnownBytes.{IsAtEnd};
 ghost use Rattle.zq_machine.specs.Headline.{RunPromise};
+ghost use Rattle.zq_trace.specs.Machine.{RunHeadline};
 ghost use Rattle.zq_io.specs.declared.transfer.TheConstants.{LIMIT};
 ghost use Rattle.zq_io.specs.Streams.{Rose};
 ghost use Rattle.zq_lines.specs.Split.{lines_of};
@@ -239,7 +240,8 @@ pub fn run_outcome<S: Source, K: Sink>(
     ensures complete { IsReplay words.now → IfSome (S.left source.old) (λ input. IsFit input → (Rose (S.faults source.old) (S.faults source.new) → ⊥) → (Rose (K.faults sink.old) (K.faults sink.new) → ⊥) → EndsWell result.status) }
     ensures told { Tells result }
     ensures named { IsReplay words.now → IfSome (S.left source.old) (λ input. IfSome result.bad_line (Names 0 input)) }
-    ensures headline { IfSome (S.left source.old) (λ input. IfOk (script_of 0 (lines_of input)) (λ s. RunPromise s.config (first_part s.parts))) }
+    ensures headline { IfSome (S.left source.old) (λ input. IfOk (script_of 0 (lines_of input)) (λ s. RunHeadline s.config (first_part s.parts))) }
+    ensures promise { IfSome (S.left source.old) (λ input. IfOk (script_of 0 (lines_of input)) (λ s. RunPromise s.config (first_part s.parts))) }
 {
     match command_of(words) {
         Some(Command::Replay) => replay(alloc, source, sink),
@@ -272,7 +274,8 @@ pub fn run<S: Source, K: Sink>(
     ensures unwritten { wrote result ≡ false → sink.new ≡ sink.old }
     ensures linked { result ≢ Status.LinkFault }
     ensures complete { IsReplay words.now → IfSome (S.left source.old) (λ input. IsFit input → (Rose (S.faults source.old) (S.faults source.new) → ⊥) → (Rose (K.faults sink.old) (K.faults sink.new) → ⊥) → EndsWell result) }
-    ensures headline { IfSome (S.left source.old) (λ input. IfOk (script_of 0 (lines_of input)) (λ s. RunPromise s.config (first_part s.parts))) }
+    ensures headline { IfSome (S.left source.old) (λ input. IfOk (script_of 0 (lines_of input)) (λ s. RunHeadline s.config (first_part s.parts))) }
+    ensures promise { IfSome (S.left source.old) (λ input. IfOk (script_of 0 (lines_of input)) (λ s. RunPromise s.config (first_part s.parts))) }
 {
     run_outcome(alloc, words, source, sink).status
 }

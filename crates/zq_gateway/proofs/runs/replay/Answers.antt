@@ -1,4 +1,5 @@
-use Rattle.std.proofs.Common.{◌≡◌, ◌∙◌, sym, ap, List, [], ◌∷◌, ◌++◌, suc, drop, length, get_or, append_assoc, add-one, arith}
+use Rattle.std.proofs.Common.{◌≡◌, ◌∙◌, sym, ap, List, [], ◌∷◌, ◌++◌, suc, drop, length, get_or, append_assoc, add-one, arith, rules}
+use Rattle.std.proofs.lemmas.Grind.{common_steps}
 use Rattle.std.specs.Prelude.{ℕ, ◌+◌, ◌<◌}
 use Rattle.std.proofs.Math.Seq.{drop-cons}
 use Rattle.zq_machine.specs.declared.call.Call.{Call}
@@ -6,6 +7,7 @@ use Rattle.zq_machine.specs.declared.call.Step.{Step}
 use Rattle.zq_machine.specs.Machine.{after, step, steps_from}
 use Rattle.zq_machine.specs.State.{State}
 use Rattle.zq_machine.proofs.Kept.{headline}
+use Rattle.zq_trace.proofs.Valid.{given_keep}
 use Rattle.zq_gateway.proofs.runs.replay.Goals as goal
 
 -- the next call is answered: its step follows those before it
@@ -28,4 +30,7 @@ loop-call-preserved c =
     }
 
 pub returns-clause-headline : goal.returns-clause-headline
-returns-clause-headline c = headline c.args.config.now c.args.calls.now
+returns-clause-headline c = given_keep c.args.config.now (search rules) c.args.calls.now _ (grind (arith, common_steps))
+
+pub returns-clause-promise : goal.returns-clause-promise
+returns-clause-promise c = headline c.args.config.now c.args.calls.now

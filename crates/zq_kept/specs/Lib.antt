@@ -1,0 +1,4 @@
+pub mod Current
+pub mod Parts
+pub mod Picked
+pub mod Table
