@@ -435,6 +435,8 @@ def first_failure(past, after, kind, v, t):
     for k, name, wanted in ((0, 'requests', requests_of(past, kind, v)), (1, 'replies', replies_of(past, kind, v)), (2, 'finals', finals_of(past, after, kind, v, t))):
         if [shown(past, h) for h in of_kind(k)] != (wanted if accepted else []):
             return name
+    if any(h.number is not None or h.reply is not None for h in of_kind(3)):
+        return 'apart'
     return None if of_kind(0) + of_kind(1) + of_kind(2) + of_kind(3) == t.handed else 'ordered'
 
 

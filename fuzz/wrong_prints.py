@@ -70,6 +70,7 @@ MUTATIONS = [
     ('a final comes a call early', each(FINAL), lambda ls, i: early(ls, i)),
     ('finals change places', each(FINAL + '.*'), lambda ls, i: sub_at(sub_at(ls, i, ls[i + 1]), i + 1, ls[i]) if i + 1 < len(ls) and re.match(FINAL, ls[i + 1]) else None),
     ('requests change places', each(REQUEST), lambda ls, i: sub_at(sub_at(ls, i, ls[i + 1]), i + 1, ls[i]) if i + 1 < len(ls) and re.match(REQUEST, ls[i + 1]) else None),
+    ('a declaration has the number of a request', each(r'> \d+ - - '), lambda ls, i: sub_at(ls, i, words(ls[i], 2, lambda w: '0'))),
     ('an accepted call is refused', each(r'= (done|replied)'), lambda ls, i: sub_at(ls, i, '= refused QueryNotFound')),
     ('a refused call is accepted', each(r'= refused'), lambda ls, i: sub_at(ls, i, '= done')),
     ('a call is refused by another cause', each(r'= refused (?!NoFreeId)'), lambda ls, i: sub_at(ls, i, '= refused NoFreeId')),

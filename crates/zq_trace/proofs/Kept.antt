@@ -24,6 +24,7 @@ use Rattle.zq_trace.specs.Refusals.{next_face, refusal_of}
 use Rattle.zq_trace.specs.Headline.{Headline, CallHeadline, HeadlineFrom, answer, granted, if_accepted, of_kind}
 use Rattle.zq_trace.specs.Machine.{PicksAlike, RefusesAlike}
 use Rattle.zq_trace.proofs.Asked.{counted_now}
+use Rattle.zq_trace.proofs.Apart.{apart}
 use Rattle.zq_trace.proofs.Finals.{finals_shown}
 use Rattle.zq_trace.proofs.Order.{ordered}
 use Rattle.zq_trace.proofs.Replies.{p, replies_shown, response_number}
@@ -86,6 +87,7 @@ module _ (config : Settings) (past : Trace) (run : IsRun config past) where
       replies = replies_shown config past run c;
       finals = finals_kept c;
       ordered = ordered config past run c;
+      apart = apart c (step s c).handed (call_promise config past c).fit;
       silent = nothing_handed s c (call_promise config past c);
     }
 

@@ -13,7 +13,9 @@ pub mod Order
 pub mod Owners
 pub mod Replies
 pub mod Late
+pub mod Apart
 pub mod Kept
+pub mod Once
 pub mod Refuses
 pub mod Offered
 pub mod FaceLists

@@ -1,7 +1,7 @@
 -- The headline, said of a trace alone: of a configuration, a list of calls and the list of their steps.
-use Rattle.std.specs.Prelude.{◌≡◌, ℕ, ◌==◌, false, List, [], ◌∷◌, ◌++◌, map, Option, if◌then◌else◌}
-use Rattle.std.specs.List.{filter}
-use Rattle.std.specs.Option.{option_and_then, option_map, option_map_or}
+use Rattle.std.specs.Prelude.{◌≡◌, ℕ, ◌==◌, Bool, false, ◌||◌, List, [], ◌∷◌, ◌++◌, map, Option, if◌then◌else◌}
+use Rattle.std.specs.List.{filter, list_any}
+use Rattle.std.specs.Option.{is_some, option_and_then, option_map, option_map_or}
 use Rattle.zq_message.specs.declared.message.Message.{Message}
 use Rattle.zq_message.specs.declared.message.Message.TheVariants as message
 use Rattle.zq_query.specs.declared.records.Final.{Final}
@@ -49,13 +49,18 @@ kind m = 3
 abbrev pub of_kind : ℕ → List Handed → List Handed
 of_kind k hs = filter (λ (h : Handed). kind h.message == k) hs
 
--- what one call of a trace keeps: it is answered what it has to be; it hands these requests, these replies and these finals, in this order, and then declarations; and nothing, where it is refused
+-- it has the number of a request, or of a reply
+abbrev pub is_numbered : Handed → Bool
+is_numbered h = is_some h.number || is_some h.reply
+
+-- what one call of a trace keeps: it is answered what it has to be; it hands these requests, these replies and these finals, in this order, and then declarations, which have no number; and nothing, where it is refused
 pub record CallHeadline (o : Others) (config : Settings) (past : Trace) (c : Call) (t : Step) : Type 0 where
   pub answered : t.outcome ≡ answer o config past c
   pub requests : map (shown past) (of_kind 0 t.handed) ≡ if_accepted t (requests_of o config past c)
   pub replies : map (shown past) (of_kind 1 t.handed) ≡ if_accepted t (replies_of config past c)
   pub finals : map (shown past) (of_kind 2 t.handed) ≡ if_accepted t (finals_of config past c t)
   pub ordered : of_kind 0 t.handed ++ of_kind 1 t.handed ++ of_kind 2 t.handed ++ of_kind 3 t.handed ≡ t.handed
+  pub apart : list_any is_numbered (of_kind 3 t.handed) ≡ false
   pub silent : is_accepted t.outcome ≡ false → t.handed ≡ []
 
 -- each call keeps it, behind those before

@@ -5,3 +5,4 @@ pub mod Expected
 pub mod Refusals
 pub mod Headline
 pub mod Machine
+pub mod Laws
