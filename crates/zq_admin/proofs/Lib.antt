@@ -1,0 +1,5 @@
+pub mod Called
+pub mod Completed
+pub mod Ended
+pub mod Ordered
+pub mod Reported

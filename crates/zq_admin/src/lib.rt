@@ -1,0 +1,30 @@
+//! The administration view: who declared which key, and who asks for it, under keys of the gateway's own.
+//!
+//! - `fronts`: what the keys of entries begin with
+//! - `entries`: the entries whose keys meet a key
+//! - `lines`: the line of an entry
+//! - `gathering`: a gateway on which calls were made
+//! - `running`: the entries of a script's run, from a source to a sink
+//! - `opening`: how the gateway's own face is opened, and what it declares
+//! - `asking`: what the own face is asked
+//! - `answering`: how it answers
+//! - `refusal`: why a view gave no answer
+//! - `admin`: a gateway with a face of its own
+#![tactic(auto)]
+
+pub mod admin;
+mod answering;
+mod asking;
+pub mod entries;
+mod fronts;
+mod gathering;
+mod lines;
+mod opening;
+pub mod refusal;
+pub mod running;
+
+pub use admin::Admin;
+pub use entries::{AdminList, list};
+pub use refusal::AdminRefusal;
+pub use running::admin_run;
+pub use zq_script::{MemorySink, MemorySource, ReadSource, Status, WriteSink};
