@@ -12,6 +12,7 @@ pub mod Hearing
 pub mod Networked
 pub mod Openings
 pub mod Passing
+pub mod Placed
 pub mod Quiet
 pub mod Reached
 pub mod Requesting

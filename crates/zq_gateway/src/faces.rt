@@ -18,6 +18,7 @@ use zq_egress::neighbours::{take_back, tell_all};
 use zq_egress::opening::{join_and_tell, take_back_joined};
 use zq_egress::write::written_finals;
 use zq_egress::{FaceMux, close_told, enter_told};
+use zq_kept::offers::let_go;
 use zq_key::items::Items;
 use zq_key::memory::OutOfMemory;
 use zq_key::message::{FaceId, Region};
@@ -81,6 +82,7 @@ impl Tables {
             seat(face, asked),
         ) {
             Ok(exits) => {
+                let_go(&mut self.kept, &asked.region);
                 self.ears.put(all.plan.as_slice());
                 self.next_face += 1;
                 Ok(Step {
@@ -147,6 +149,7 @@ impl Tables {
         match close_told(&mut self.gates, &mut self.queries, &all.handed, face) {
             Ok(exits) => {
                 hats::leave(&mut self.hats, region, face);
+                let_go(&mut self.kept, &region);
                 let _ = self.faces.remove(&face.0);
                 self.interests.close(face);
                 self.names.close(face);

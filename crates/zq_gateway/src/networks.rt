@@ -18,6 +18,7 @@ use zq_dispatcher::networks::{tell_losses, tree_tellings};
 use zq_dispatcher::types::RegionChange;
 use zq_egress::let_told_out;
 use zq_egress::neighbours::{take_back, tell_all};
+use zq_kept::offers::let_go;
 use zq_key::items::Items;
 use zq_key::memory::OutOfMemory;
 use zq_key::message::{FaceId, Region, TextList};
@@ -37,6 +38,7 @@ impl Tables {
         };
         let copy = ids.copy(self.alloc)?;
         hats::set_node_ids(&mut self.hats, region, face, copy);
+        let_go(&mut self.kept, &region);
         Ok(self.done())
     }
 
@@ -111,6 +113,7 @@ impl Tables {
         match let_told_out(&mut self.gates, &all.handed) {
             Ok(exits) => {
                 hats::put_network(&mut self.hats, region, net, gone.as_slice());
+                let_go(&mut self.kept, &region);
                 release_each(&mut self.names, &self.hats, region, keys.as_slice());
                 Ok(done_telling(&mut self.ears, &mut self.gates, all, exits))
             }

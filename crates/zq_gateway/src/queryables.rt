@@ -15,6 +15,7 @@ use zq_egress::holding::{Hold, hold_and_tell, take_back_held};
 use zq_egress::neighbours::{take_back, tell_all};
 use zq_egress::read::{key_said, marks_key};
 use zq_egress::{register_told, withdraw_told};
+use zq_kept::offers::let_go;
 use zq_key::Key;
 use zq_key::items::Items;
 use zq_key::memory::OutOfMemory;
@@ -106,7 +107,10 @@ impl Tables {
             node,
             info,
         ) {
-            Ok(exits) => Ok(done_telling(&mut self.ears, &mut self.gates, all.told, exits)),
+            Ok(exits) => {
+                let_go(&mut self.kept, &region);
+                Ok(done_telling(&mut self.ears, &mut self.gates, all.told, exits))
+            }
             Err(_) => {
                 take_back_held(&mut self.names, &mut self.ears, &all, &by);
                 Err(OutOfMemory)
@@ -186,6 +190,7 @@ impl Tables {
             node,
         ) {
             Ok(exits) => {
+                let_go(&mut self.kept, &region);
                 self.names.release_queryable(face, id);
                 Ok(done_telling(&mut self.ears, &mut self.gates, all, exits))
             }
@@ -250,6 +255,7 @@ impl Tables {
             return Ok(self.refused(Refusal::InvalidKeyExpr));
         }
         hats::mark(&mut self.hats, region, face, mark, set)?;
+        let_go(&mut self.kept, &region);
         Ok(self.done())
     }
 }

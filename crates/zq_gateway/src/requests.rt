@@ -16,6 +16,9 @@ use zq_egress::let_go_unsent;
 use zq_egress::read::{full_text, into_text, says_key};
 use zq_egress::select::{Asker, targets_of};
 use zq_egress::write::{text_for, written_requests};
+use zq_hat::hat::Hat;
+use zq_kept::asking::Asking;
+use zq_kept::offers::{make_room, offers_for};
 use zq_key::memory::OutOfMemory;
 use zq_key::message::{FaceId, Request};
 use zq_machine::call::{Outcome, Refusal, Step};
@@ -23,21 +26,31 @@ use zq_machine::face::OpenFace;
 use zq_machine::handed::HandedList;
 use zq_query::records::{AskRefusal, Final};
 use zq_strategy::types::QueryTargetQabl;
+use zq_tables::RegionMap;
 use zq_tables::resolved::Resolved;
+
+// Who asks on this key.
+fn asking_on<'a>(asker: Asker<'a>, hats: &'a RegionMap<Hat>, key: &'a str) -> Asking<'a>
+    ensures { result ≡ record { asker = asker.entry; hats = hats.entry; key = key.entry } }
+{
+    Asking { asker, hats, key }
+}
 
 impl Tables {
     // The offers that a request is handed to, of each face one.
     fn select(
-        &self,
+        &mut self,
         face: FaceId,
         opened: OpenFace,
         said: &Resolved,
         request: &Request,
     ) -> Result<Vec<QueryTargetQabl>, OutOfMemory>
-        requires open { at face.0 self.now.core.faces ≡ Some opened }
-        requires seated { seats opened.region face.0 self.now.core.hats ≡ Some true }
-        ensures offers { IfOk result (λ v. v.items ≡ select_for self.now.core face said.now request.now (Some opened)) }
+        requires reached { IsReached self.old }
+        requires open { at face.0 self.old.core.faces ≡ Some opened }
+        requires seated { seats opened.region face.0 self.old.core.hats ≡ Some true }
+        ensures offers { IfOk result (λ v. v.items ≡ select_for self.old.core face said.now request.now (Some opened)) }
         ensures distinct { IfOk result (λ v. are_distinct (face_numbers (map target_of v.items)) ≡ true) }
+        ensures same { self.new ≡ self.old }
     {
         if !says_key(said) {
             return Ok(Vec::new(self.alloc));
@@ -51,10 +64,12 @@ impl Tables {
             source: hats::router_by(&self.hats, opened.region, face, request.node),
             context: hats::place_by(&self.hats, opened.region, face, request.node),
         };
-        asker.select(
-            self.alloc,
-            &self.hats,
-            full_text(said),
+        let asking = asking_on(asker, &self.hats, full_text(said));
+        make_room(&mut self.kept, &self.names, &mut self.limit);
+        offers_for(
+            &asking,
+            &self.names,
+            &mut self.kept,
             request.target,
             self.config.best(),
         )

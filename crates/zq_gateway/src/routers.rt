@@ -19,6 +19,7 @@ use zq_dispatcher::types::DuesList;
 use zq_egress::holding::{Hold, hold_and_tell, take_back_held};
 use zq_egress::put_entry_told;
 use zq_egress::read::key_said;
+use zq_kept::offers::let_go;
 use zq_key::Key;
 use zq_key::memory::OutOfMemory;
 use zq_key::message::{FaceId, NodeId, QueryableInfoType, Region, Zid};
@@ -172,6 +173,7 @@ impl Tables {
             entry.info,
         ) {
             Ok(exits) => {
+                let_go(&mut self.kept, &entry.region);
                 release_gone(
                     &mut self.names,
                     &self.hats,

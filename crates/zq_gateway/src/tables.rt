@@ -21,6 +21,8 @@ use zq_egress::FaceMuxes;
 use zq_egress::write::written_final;
 use zq_hat::hat::Hat;
 use zq_interests::interests::Interests;
+use zq_kept::asking::KeptOffers;
+use zq_kept::offers::{kept_at, none_kept};
 use zq_key::items::Items;
 use zq_key::memory::OutOfMemory;
 use zq_key::message::{Declare, DeclareBody, FaceId, Region, Request, Response};
@@ -51,6 +53,8 @@ pub struct Tables {
     pub(crate) interests: Interests,
     pub(crate) ears: ToldSets,
     pub(crate) gates: FaceMuxes,
+    pub(crate) kept: KeptOffers,
+    pub(crate) limit: usize,
 }
 
 impl Drop for Tables {
@@ -67,6 +71,8 @@ impl Drop for Tables {
             interests,
             ears,
             gates,
+            kept,
+            limit,
         } = self;
     }
 }
@@ -91,6 +97,10 @@ impl Model for Tables {
       names = t.names;
       gates = t.gates;
     } };
+
+    ghost use Rattle.zq_kept.specs.Current.{AreCurrent};
+
+    ghost invariant = { λ t. AreCurrent t.kept t.hats };
 }
 
 impl Tables {
@@ -118,6 +128,8 @@ impl Tables {
             interests: Interests::new(alloc),
             ears: ToldSets::new(alloc),
             gates: FaceMuxes::new(alloc),
+            kept: none_kept(alloc)?,
+            limit: 0,
         })
     }
 
