@@ -18,6 +18,7 @@ ghost use Rattle.zq_gateway.specs.Contexts.{has_standing};
 ghost use Rattle.zq_gateway.specs.Making.{Performs, MayPerform};
 ghost use Rattle.zq_hat.specs.Sourced.{all_queriers, all_queryables};
 
+mod cached;
 mod deadline;
 
 use crate::tables::Tables;

@@ -22,7 +22,7 @@ use zq_egress::write::written_final;
 use zq_hat::hat::Hat;
 use zq_interests::interests::Interests;
 use zq_kept::asking::KeptOffers;
-use zq_kept::offers::{kept_at, none_kept};
+use zq_kept::offers::none_kept;
 use zq_key::items::Items;
 use zq_key::memory::OutOfMemory;
 use zq_key::message::{Declare, DeclareBody, FaceId, Region, Request, Response};

@@ -1,4 +1,4 @@
-use Rattle.std.proofs.Common.{◌≡◌, ◌∙◌, refl, sym, ap, Err, subst, [], map, None, Some}
+use Rattle.std.proofs.Common.{◌≡◌, ◌∙◌, refl, sym, ap, Err, subst, [], map, None, Some, true}
 use Rattle.std.specs.List.{AllByRecursion}
 use Rattle.zq_strategy.specs.Tellings.{in_order}
 use Rattle.zq_strategy.specs.Kept.{registered}
@@ -23,6 +23,7 @@ use Rattle.zq_gateway.specs.Gathering.{Gathers}
 use Rattle.zq_gateway.proofs.Due.{changed_home, due_of_keys, gathered_due, gathered_lacks, gathered_left, only_fits, only_lacks, refused_answered, refused_left, told_answered, told_left}
 use Rattle.zq_gateway.proofs.GoneOut.{each_told, goes_out, stays_out}
 use Rattle.zq_gateway.proofs.Reached.{reached_seated}
+use Rattle.zq_dispatcher.proofs.Seats.{region_indexed, seated_region}
 use Rattle.zq_gateway.proofs.tables.Tables.put_queryable.Goals as goal
 
 pub hold_and_tell-requires-clause-keys : goal.hold_and_tell-requires-clause-keys
@@ -137,3 +138,8 @@ returns c =
         gates = gates_back j;
       };
     }
+
+pub let_go-requires : goal.let_go-requires
+let_go-requires c =
+    let s : State = c.args.self.now in
+    region_indexed c.args.region (seated_region c.args.region c.args.face.0 s.core.hats true (reached_seated s c.args.face.0 c.args.region c.requires.reached c.requires.home))
