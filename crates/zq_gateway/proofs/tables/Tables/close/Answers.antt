@@ -1,4 +1,4 @@
-use Rattle.std.proofs.Common.{◌≡◌, ◌∙◌, refl, sym, ap, subst, Err, List, fold, map, Some, true≢false}
+use Rattle.std.proofs.Common.{◌≡◌, ◌∙◌, refl, sym, ap, subst, ℕ, Err, List, fold, map, Some, true≢false}
 use Rattle.std.specs.BTreeMap.{is_at}
 use Rattle.std.specs.List.{AllByRecursion}
 use Rattle.std.specs.Map.{remove_entry}
@@ -30,6 +30,8 @@ use Rattle.zq_gateway.specs.Gathering.{Gathers}
 use Rattle.zq_gateway.proofs.Due.{changed_home, closed_answered, closed_left, closed_out, due_of_keys, gathered_due, gathered_lacks, gathered_left}
 use Rattle.zq_gateway.proofs.Reached.{reached_enough}
 use Rattle.zq_gateway.proofs.GoneOut.{goes_out, stays_out, told_behind}
+use Rattle.zq_strategy.specs.State.{HatState}
+use Rattle.zq_kept.specs.Current.{AreCurrent}
 use Rattle.zq_gateway.proofs.tables.Tables.close.Goals as goal
 
 pub tell_all-requires : goal.tell_all-requires
@@ -122,3 +124,8 @@ returns-in-Ok-close_told c =
           ∙ sym (stays_out s t refl outcome.Done all.handed w plain stays w.gates refl es (without_gate face.0 after) out);
       err = tt;
     }
+
+pub invariant_of-self-in-Ok-close_told : goal.invariant_of-self-in-Ok-close_told
+invariant_of-self-in-Ok-close_told c =
+    let P : List (ℕ × HatState) → Type 0 = AreCurrent c.let_go.new.kept in
+    subst P (sym c.leave.ensures) (c.let_go.ensures.current c.self.inside.hats (without_face c.args.face.0) c.self.invariant)

@@ -1,4 +1,4 @@
-use Rattle.std.proofs.Common.{◌≡◌, ◌∙◌, refl, sym, ap, Err, subst, [], ◌∷◌, map, Some}
+use Rattle.std.proofs.Common.{◌≡◌, ◌∙◌, refl, sym, ap, Err, subst, ℕ, List, [], ◌∷◌, map, Some}
 use Rattle.std.specs.List.{AllByRecursion}
 use Rattle.std.specs.Option.{is_some}
 use Rattle.zq_message.specs.Region.{region_index}
@@ -29,6 +29,7 @@ use Rattle.zq_gateway.proofs.Due.{due_of_keys, gathered_due, gathered_lacks, gat
 use Rattle.zq_gateway.proofs.Entering.{entering_answered, entering_ears, entering_faces, entering_interests, entering_left, entering_plain}
 use Rattle.zq_gateway.proofs.EntryKeys.{entry_renamed, told_then_gone}
 use Rattle.zq_gateway.proofs.GoneOut.{each_told, entering_asks, goes_out, stays_out}
+use Rattle.zq_kept.specs.Current.{AreCurrent}
 use Rattle.zq_gateway.proofs.tables.Tables.put_entry.Goals as goal
 
 pub hold_and_tell-requires-clause-can : goal.hold_and_tell-requires-clause-can
@@ -172,3 +173,14 @@ returns c =
         gates = gates_back j;
       };
     }
+
+pub invariant_of-self-in-Ok-put_entry_told : goal.invariant_of-self-in-Ok-put_entry_told
+invariant_of-self-in-Ok-put_entry_told c =
+    let entry = c.args.found.entry in
+    let P : List (ℕ × HatState) → Type 0 = AreCurrent c.let_go.new.kept in
+    subst P (sym c.in-Ok-put_entry_told.ensures.ok) (c.let_go.ensures.current c.self.inside.hats (entered entry.router entry.key entry.info) c.self.invariant)
+
+pub invariant_of-self-in-Err : goal.invariant_of-self-in-Err
+invariant_of-self-in-Err c =
+    let P : List (ℕ × HatState) → Type 0 = AreCurrent c.self.inside.kept in
+    subst P (sym c.in-Err.ensures.no_hats) c.self.invariant
