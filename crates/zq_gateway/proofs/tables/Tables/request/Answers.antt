@@ -17,8 +17,8 @@ pub returns : goal.returns
 returns c =
     let s : State = c.args.self.now in
     let sound = (reached_in_order s c.requires).sound in
-    let v = c.self.view_is in
-    let w = c.self-2.view_is ∙ c.in_ok-handed.ensures.same in
+    let v = c.self.view_is ∙ c.in_ok-offers.ensures.same in
+    let w = c.self-2.view_is ∙ c.in_ok-handed.ensures.same ∙ c.in_ok-offers.ensures.same in
     let r = c.args.request.now in
     let face = c.args.face in
     let text = full_text c.args.said in
@@ -32,7 +32,7 @@ returns c =
     let places : c.as_slice-5.result.now ≡ map (given_place s.core.queries) (map target_of os) = c.as_slice-5.ensures ∙ c.in-Ok.ensures.places ∙ (λ j. map (given_place (queries j)) (targets j)) in
     let asked : c.ask_planned.new.self ≡ after_ask face r.id r.qos (map target_of os) (deadline s.core r.timeout c.args.now) s.core.queries =
     c.in_ok-ask_planned.ensures.ok ∙ (λ j. asking_at face r.id r.qos (places j) (until j) (later j)) in
-    let handed : c.in_ok-handed.handed ≡ asked_out s face text r os = c.in_ok-handed.ensures.out ∙ ap (asked_out s face text r) (c.as_slice-3.ensures.value ∙ c.in_ok-offers.ensures.offers) in
+    let handed : c.in_ok-handed.handed ≡ asked_out s face text r os = c.in_ok-handed.ensures.out ∙ ap (λ (x : State). asked_out x face text r c.as_slice-3.result.now) c.in_ok-offers.ensures.same ∙ ap (asked_out s face text r) (c.as_slice-3.ensures.value ∙ c.in_ok-offers.ensures.offers) in
     let standing = ap (λ (q : QueryState). any_over q.records) asked ∙ ask_none_over face r.id r.qos (map target_of os) (deadline s.core r.timeout c.args.now) s.core.queries sound.standing in
     let gone = c.let_go_unsent.ensures standing ∙ (λ j. record (asked j) { records = letting_go_all (asked j).records (unsent ((c.as_slice-6.ensures ∙ handed) j)) }) in
     record {
