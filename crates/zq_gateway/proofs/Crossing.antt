@@ -20,6 +20,12 @@ use Rattle.zq_route.specs.contracts.gateways.Gateways as Gateways
 use Rattle.zq_machine.proofs.config.Config.TheSendSync as config
 use Rattle.zq_machine.proofs.face.OpenFace.TheSendSync as face
 use Rattle.zq_machine.specs.contracts.config.Config as Config
+use Rattle.zq_message.proofs.items.Items.TheSendSync as items
+use Rattle.zq_message.specs.contracts.items.Items as Items
+use Rattle.zq_strategy.proofs.offer.QueryTargetQabl.TheSendSync as offer
+use Rattle.zq_strategy.specs.contracts.offer.QueryTargetQabl as Offer
+use Rattle.zq_kept.proofs.table.RouteTable.TheSendSync as kept
+use Rattle.zq_kept.specs.contracts.table.RouteTable as RouteTable
 use Rattle.zq_egress.proofs.face_muxes.FaceMuxes.TheSendSync as gates
 use Rattle.zq_egress.specs.contracts.face_muxes.FaceMuxes as Gates
 use Rattle.zq_gateway.specs.contracts.tables.Tables as Tables
@@ -53,7 +59,13 @@ tables_send = view_send _ _ _ _ _ (declared_send TablesIn.the_type (
                     as_row_send ToldSets.the_field ears.the_send,
                     (
                       as_row_send Gates.the_field gates.the_send,
-                      tt,
+                      (
+                        as_row_send (RouteTable.the_field (Items.the_row Offer.the_row)) (kept.the_send (Items.the_row Offer.the_row) (items.the_send Offer.the_row offer.the_send)),
+                        (
+                          search sendable,
+                          tt,
+                        ),
+                      ),
                     ),
                   ),
                 ),
