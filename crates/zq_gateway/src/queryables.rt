@@ -190,8 +190,8 @@ impl Tables {
             node,
         ) {
             Ok(exits) => {
-                let_go(&mut self.kept, &region);
                 self.names.release_queryable(face, id);
+                let_go(&mut self.kept, &region);
                 Ok(done_telling(&mut self.ears, &mut self.gates, all, exits))
             }
             Err(_) => {

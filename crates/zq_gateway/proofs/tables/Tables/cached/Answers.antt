@@ -1,4 +1,4 @@
-use Rattle.std.proofs.Common.{◌≡◌, sym, ap, subst, ℕ, IfSome, Some, List, Bor}
+use Rattle.std.proofs.Common.{◌≡◌, ap, subst, ℕ, IfSome, Some, List, Bor}
 use Rattle.zq_machine.specs.State.{State, hat_at}
 use Rattle.zq_strategy.specs.declared.offer.QueryTargetQabl.{QueryTargetQabl}
 use Rattle.zq_strategy.specs.Offers.{offers_of}

@@ -1,5 +1,4 @@
-use Rattle.std.proofs.Common.{◌≡◌, ◌∙◌, sym, ap, subst, List, ℕ}
-use Rattle.zq_strategy.specs.State.{HatState}
+use Rattle.std.proofs.Common.{◌≡◌, ◌∙◌, sym, ap, subst}
 use Rattle.zq_kept.specs.declared.asking.Asking.{Asking}
 use Rattle.zq_kept.specs.Current.{ArePlaced}
 use Rattle.zq_machine.specs.State.{State}
