@@ -1,5 +1,5 @@
-//! The headline of a run, said of its trace alone: of the calls and of what they were answered, in
-//! which no state of the machine stands.
+//! The headline of a run, said of its trace: of the calls and of what they were answered. Three things
+//! are left to a parameter (`Others`), and of a run they are the machine's (`of_machine`).
 #![tactic(auto)]
 
 ghost use Rattle.std.specs.Prelude.{◌≡◌, ℕ, ◌<◌, ◌≤◌, List, [], ◌∷◌, ◌++◌, None};
