@@ -27,7 +27,7 @@ use Rattle.zq_machine.proofs.Changing.{itself, number_test}
 use Rattle.zq_machine.proofs.Frame.{run_config}
 use Rattle.zq_machine.proofs.Keeping.{Keeps, is_plain, run_keeps}
 use Rattle.zq_machine.specs.Keeping.{heard_in, last_in}
-use Rattle.zq_gateway.specs.Making.{Answers, IsReached, MayPerform}
+use Rattle.zq_gateway.specs.Making.{Answers, IsReached, MayMake}
 use Rattle.zq_gateway.proofs.Hearing.{enough_told}
 use Rattle.zq_dispatcher.specs.Seats.{seats}
 
@@ -51,7 +51,7 @@ pub reached_given : (s z : State) (c : Call) (t : Step) (r : Result Step OutOfMe
 reached_given s z c t (Ok x) g i = reached_after s z c i g.after
 reached_given s z c t (Err e) g i = subst IsReached (sym g.err) i
 
-pub reached_may : (s z : State) (o : Option Call) (r : Result Step OutOfMemory) → MayPerform s z o r → IsReached s → IsReached z
+pub reached_may : (s z : State) (o : Option Call) (r : Result Step OutOfMemory) → MayMake s z o r → IsReached s → IsReached z
 reached_may s z None (Ok x) g i = subst IsReached (sym g.after) i
 reached_may s z None (Err e) g i = subst IsReached (sym g.err) i
 reached_may s z (Some c) r g i = reached_given s z c _ r g i

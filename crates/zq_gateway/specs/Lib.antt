@@ -1,3 +1,4 @@
+pub mod Caching
 pub mod Asking
 pub mod Deadline
 pub mod Gathering

@@ -15,53 +15,88 @@ ghost use Rattle.zq_machine.specs.Machine.{after, done, refused_step, step};
 ghost use Rattle.zq_machine.specs.State.{opening_state};
 ghost use Rattle.zq_tables.specs.Naming.{has_context};
 ghost use Rattle.zq_gateway.specs.Contexts.{has_standing};
+ghost use Rattle.zq_gateway.specs.Caching.{LetsGo, has_accepted};
 ghost use Rattle.zq_gateway.specs.Making.{Performs, MayPerform};
 ghost use Rattle.zq_hat.specs.Sourced.{all_queriers, all_queryables};
 
+mod cached;
 mod deadline;
 
 use crate::tables::Tables;
 use std::alloc::Global;
 use std::marker::Model;
+use zq_dispatcher::hats::is_region;
 use zq_hat::queriers::all_queriers;
 use zq_hat::queryables::all_queryables;
 use zq_hat::sources::{Source, SourceList};
+use zq_kept::cache::RouteCache;
 use zq_key::memory::OutOfMemory;
 use zq_key::message::{Declare, FaceId, Interest, Mode, Region, Request, Response, Zid};
-use zq_machine::call::{Call, Opening, Refusal, Step};
+use zq_machine::call::{Call, Opening, Outcome, Refusal, Step};
 use zq_machine::config::Config;
 use zq_machine::handed::Handed;
 use zq_route::gateways::Gateways;
 use zq_strategy::types::{FinalMark, Network, NodeIds};
 
-/// What carries queries between faces. Whatever it keeps, calls made it of a new gateway's, so that
-/// all that holds of every run holds of it.
+/// What carries queries between faces. Whatever its tables keep, calls made it of a new gateway's, so that
+/// all that holds of every run holds of it; and what is kept of what a region offers is what it offers now.
 pub struct Gateway {
     tables: Tables,
+    routes: RouteCache,
 }
 
 impl Drop for Gateway {
     fn drop(self) {
-        let Gateway { tables } = self;
+        let Gateway { tables, routes } = self;
     }
 }
 
 impl Model for Gateway {
-    ghost use Rattle.zq_machine.specs.State.{State};
+    ghost use Rattle.zq_kept.specs.Current.{AreCurrent};
+    ghost use Rattle.zq_gateway.specs.Caching.{Cached};
     ghost use Rattle.zq_gateway.specs.Making.{IsReached};
 
-    ghost Value = { State };
+    ghost Value = { Cached };
 
-    ghost view = { λ g. g.tables };
+    ghost view = { λ g. record { state = g.tables; routes = g.routes } };
 
-    ghost invariant = { λ g. IsReached g.tables };
+    ghost invariant = { λ g. IsReached g.tables × AreCurrent g.routes g.tables.core.hats };
+}
+
+// Whether a call was accepted.
+fn has_accepted(made: &Result<Step, OutOfMemory>) -> bool
+    ensures { result ≡ has_accepted made.now }
+{
+    match made {
+        Ok(step) => match step.outcome {
+            Outcome::Refused(_) => false,
+            _ => true,
+        },
+        Err(_) => false,
+    }
+}
+
+// Where a call was accepted, no offers are kept any more of the region whose hat it changed, if it changed
+// one.
+fn let_go(routes: &mut RouteCache, region: Option<Region>, made: &Result<Step, OutOfMemory>)
+    ensures { LetsGo region made.now routes.old routes.new }
+{
+    let Some(region) = region else {
+        return;
+    };
+    if !is_region(region) {
+        return;
+    }
+    if has_accepted(made) {
+        routes.let_go(&region);
+    }
 }
 
 impl Gateway {
     /// A gateway of this configuration, before any call. Whatever calls are made on it, one after
     /// another, their steps keep the headline, and each call the promises of a run.
     pub fn new(alloc: Global, config: &Config) -> Result<Gateway, OutOfMemory>
-        ensures opening { IfOk result (λ g. g ≡ opening_state config.now) }
+        ensures opening { IfOk result (λ g. g.state ≡ opening_state config.now) }
         ensures headline { IfOk result (λ _. (calls : List Call) → RunHeadline config.now calls) }
         ensures promise { IfOk result (λ _. (calls : List Call) → RunPromise config.now calls) }
         ensures valid { IfOk result (λ _. bad_config config.now.entries ≡ None) }
@@ -69,6 +104,7 @@ impl Gateway {
         let _valid = config.entries();
         Ok(Gateway {
             tables: Tables::new(alloc, config)?,
+            routes: RouteCache::new(alloc)?,
         })
     }
 
@@ -77,7 +113,10 @@ impl Gateway {
     pub fn call(&mut self, call: &Call) -> Result<Step, OutOfMemory>
         ensures { Performs self.old self.new call.now result }
     {
-        self.tables.call(call)
+        let region = self.tables.region_changed(call);
+        let made = self.tables.call(&mut self.routes, call);
+        let_go(&mut self.routes, region, &made);
+        made
     }
 
     /// A face is opened in its region, with its namespace and deny lists, if it has them. `InvalidKeyExpr`
@@ -85,14 +124,19 @@ impl Gateway {
     pub fn open_face(&mut self, opening: &Opening) -> Result<Step, OutOfMemory>
         ensures { Performs self.old self.new (call.Open opening.now) result }
     {
-        self.tables.open(opening)
+        let made = self.tables.open(opening);
+        let_go(&mut self.routes, Some(opening.region), &made);
+        made
     }
 
     /// A face is closed (upstream's `Primitives::send_close`).
     pub fn send_close(&mut self, face: FaceId) -> Result<Step, OutOfMemory>
         ensures { Performs self.old self.new (call.Close face) result }
     {
-        self.tables.close(face)
+        let region = self.tables.region_of(face);
+        let made = self.tables.close(face);
+        let_go(&mut self.routes, region, &made);
+        made
     }
 
     /// A request of a face at a moment (upstream's `Primitives::send_request`).
@@ -104,7 +148,7 @@ impl Gateway {
     ) -> Result<Step, OutOfMemory>
         ensures { Performs self.old self.new (call.Request face msg.now now) result }
     {
-        self.tables.send_request(face, msg, now)
+        self.tables.send_request(&mut self.routes, face, msg, now)
     }
 
     /// A request of a face at a moment, as `send_request` (upstream's `Face::route_query`).
@@ -132,7 +176,10 @@ impl Gateway {
     pub fn send_declare(&mut self, face: FaceId, msg: &Declare) -> Result<Step, OutOfMemory>
         ensures { MayPerform self.old self.new (declared_call face msg.now) result }
     {
-        self.tables.send_declare(face, msg)
+        let region = self.tables.region_declared(face, msg);
+        let made = self.tables.send_declare(face, msg);
+        let_go(&mut self.routes, region, &made);
+        made
     }
 
     /// A face asks to hear of the queryables on the keys that meet its interest's, or on all keys, from
@@ -167,7 +214,10 @@ impl Gateway {
     ) -> Result<Step, OutOfMemory>
         ensures { Performs self.old self.new (call.FinalizeInterest face mark.now set) result }
     {
-        self.tables.finalize(face, mark, set)
+        let region = self.tables.region_of(face);
+        let made = self.tables.finalize(face, mark, set);
+        let_go(&mut self.routes, region, &made);
+        made
     }
 
     /// A moment has come, in milliseconds: each entry whose deadline has come is released, with an error reply.
@@ -190,7 +240,9 @@ impl Gateway {
     pub fn set_network(&mut self, region: Region, net: &Network) -> Result<Step, OutOfMemory>
         ensures { Performs self.old self.new (call.SetNetwork region net.now) result }
     {
-        self.tables.set_network(region, net)
+        let made = self.tables.set_network(region, net);
+        let_go(&mut self.routes, Some(region), &made);
+        made
     }
 
     /// The node numbers of a face stand for these ids from now on. `UnknownFace` where the face is not
@@ -198,24 +250,29 @@ impl Gateway {
     pub fn set_node_ids(&mut self, face: FaceId, ids: &NodeIds) -> Result<Step, OutOfMemory>
         ensures { Performs self.old self.new (call.SetNodeIds face ids.now) result }
     {
-        self.tables.set_node_ids(face, ids)
+        let region = self.tables.region_of(face);
+        let made = self.tables.set_node_ids(face, ids);
+        let_go(&mut self.routes, region, &made);
+        made
     }
 
     /// A target ends a query (upstream's `Primitives::send_response_final`); the final to the asker
     /// comes of it, or none. It takes no memory.
     pub fn send_response_final(&mut self, face: FaceId, rid: u32) -> Result<Option<Handed>, Refusal>
-        ensures handed { IfOk result (λ o. step self.old (call.ResponseFinal face rid) ≡ done (cons_option o [])) }
-        ensures refused { IfErr result (λ r. step self.old (call.ResponseFinal face rid) ≡ refused_step r) }
-        ensures after { self.new ≡ after self.old (call.ResponseFinal face rid) }
+        ensures handed { IfOk result (λ o. step self.old.state (call.ResponseFinal face rid) ≡ done (cons_option o [])) }
+        ensures refused { IfErr result (λ r. step self.old.state (call.ResponseFinal face rid) ≡ refused_step r) }
+        ensures after { self.new.state ≡ after self.old.state (call.ResponseFinal face rid) }
+        ensures routes { self.new.routes ≡ self.old.routes }
     {
         self.tables.send_response_final(face, rid)
     }
 
     /// A reply was sent; the final to the asker comes of it, or none. It takes no memory.
     pub fn sent(&mut self, reply: u64) -> Result<Option<Handed>, Refusal>
-        ensures handed { IfOk result (λ o. step self.old (call.Sent reply) ≡ done (cons_option o [])) }
-        ensures refused { IfErr result (λ r. step self.old (call.Sent reply) ≡ refused_step r) }
-        ensures after { self.new ≡ after self.old (call.Sent reply) }
+        ensures handed { IfOk result (λ o. step self.old.state (call.Sent reply) ≡ done (cons_option o [])) }
+        ensures refused { IfErr result (λ r. step self.old.state (call.Sent reply) ≡ refused_step r) }
+        ensures after { self.new.state ≡ after self.old.state (call.Sent reply) }
+        ensures routes { self.new.routes ≡ self.old.routes }
     {
         self.tables.sent(reply)
     }
@@ -224,7 +281,7 @@ impl Gateway {
     /// places, and behind those of each south-bound region that has the key the gateway's own id, under
     /// the mode of North (upstream's `Tables::sourced_queryables`).
     pub fn sourced_queryables(&self) -> Result<SourceList, OutOfMemory>
-        ensures { IfOk result (λ l. l ≡ all_queryables (record { zid = self.now.core.config.zid; mode = north_of self.now.core.config.entries }) self.now.core.hats) }
+        ensures { IfOk result (λ l. l ≡ all_queryables (record { zid = self.now.state.core.config.zid; mode = north_of self.now.state.core.config.entries }) self.now.state.core.hats) }
     {
         let own = Source {
             zid: self.zid(),
@@ -236,7 +293,7 @@ impl Gateway {
     /// Who asks to hear of each key, by text: the ids of those who do, region by region in the order of
     /// their places (upstream's `Tables::sourced_queriers`).
     pub fn sourced_queriers(&self) -> Result<SourceList, OutOfMemory>
-        ensures { IfOk result (λ l. l ≡ all_queriers self.now.core.interests self.now.core.hats) }
+        ensures { IfOk result (λ l. l ≡ all_queriers self.now.state.core.interests self.now.state.core.hats) }
     {
         all_queriers(
             self.tables.alloc(),
@@ -250,15 +307,15 @@ impl Gateway {
     /// an open face stands for, or the key of a router's entry. The empty text is the root's, which has
     /// none. It takes no memory.
     pub fn has_context(&self, key: &str) -> bool
-        ensures names { result ≡ has_context key.now self.now.names }
-        ensures standing { result ≡ has_standing key.now self.now }
+        ensures names { result ≡ has_context key.now self.now.state.names }
+        ensures standing { result ≡ has_standing key.now self.now.state }
     {
         self.tables.has_context(key)
     }
 
     /// How many entries of the request are pending; 0 where it is not open. It takes no memory.
     pub fn pending_of(&self, number: u64) -> u64
-        ensures { result ≡ pending_count number self.now.core.queries.records }
+        ensures { result ≡ pending_count number self.now.state.core.queries.records }
     {
         self.tables.pending_of(number)
     }
@@ -266,37 +323,37 @@ impl Gateway {
     /// The least of the request's replies in flight, and None exactly where there is none. It takes no
     /// memory.
     pub fn first_in_flight(&self, number: u64) -> Option<u64>
-        ensures there { IfSome result (λ reply. flies number reply self.now.core.queries.records ≡ true) }
-        ensures least { IfSome result (λ reply. (earlier : ℕ) → earlier < reply → flies number earlier self.now.core.queries.records ≡ false) }
-        ensures none { IfNone result ((reply : ℕ) → flies number reply self.now.core.queries.records ≡ false) }
+        ensures there { IfSome result (λ reply. flies number reply self.now.state.core.queries.records ≡ true) }
+        ensures least { IfSome result (λ reply. (earlier : ℕ) → earlier < reply → flies number earlier self.now.state.core.queries.records ≡ false) }
+        ensures none { IfNone result ((reply : ℕ) → flies number reply self.now.state.core.queries.records ≡ false) }
     {
         self.tables.first_in_flight(number)
     }
 
     /// At most how many replies the call would hand, and so put in flight.
     pub fn most_replies(&self, call: &Call) -> Result<usize, OutOfMemory>
-        ensures { IfOk result (λ n. length (replies_of (step self.now call.now)) ≤ n) }
+        ensures { IfOk result (λ n. length (replies_of (step self.now.state call.now)) ≤ n) }
     {
         self.tables.most_replies(call)
     }
 
     /// What it was made with.
     pub fn config(&self) -> &Config
-        ensures { result.now ≡ self.now.core.config }
+        ensures { result.now ≡ self.now.state.core.config }
     {
         self.tables.config()
     }
 
     /// The gateway's own id.
     pub fn zid(&self) -> Zid
-        ensures { result ≡ self.now.core.config.zid }
+        ensures { result ≡ self.now.state.core.config.zid }
     {
         self.tables.config().zid()
     }
 
     /// The mode of the entry North.
     pub fn north(&self) -> Mode
-        ensures { result ≡ north_of self.now.core.config.entries }
+        ensures { result ≡ north_of self.now.state.core.config.entries }
     {
         self.tables.config().north()
     }

@@ -7,7 +7,7 @@ ghost use Rattle.zq_machine.specs.TextCalls.{hearing, unhearing};
 ghost use Rattle.zq_egress.specs.Neighbours.{is_fresh};
 ghost use Rattle.zq_gateway.specs.Asking.{asking_refusal, interest_looks, manner_of, said_by, said_key};
 ghost use Rattle.zq_gateway.specs.Gathering.{OnlyIdsLack};
-ghost use Rattle.zq_gateway.specs.Making.{IsReached, Performs, Settles};
+ghost use Rattle.zq_gateway.specs.Making.{IsReached, Makes, Settles};
 
 use crate::leaving::done_telling;
 use crate::tables::Tables;
@@ -162,7 +162,7 @@ impl Tables {
         wire: &Option<WireExpr>,
     ) -> Result<Step, OutOfMemory>
         requires { IsReached self.old }
-        ensures { Performs self.old self.new (call.Interest face id keys aggregate wire.now) result }
+        ensures { Makes self.old self.new (call.Interest face id keys aggregate wire.now) result }
     {
         let said = self.said_if(face, wire)?;
         self.ask_to_hear(face, id, keys, aggregate, &said)

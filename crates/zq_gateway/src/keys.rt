@@ -2,7 +2,7 @@
 ghost use Rattle.zq_machine.specs.declared.call.Call.TheVariants as call;
 ghost use Rattle.zq_tables.specs.Naming.{face_naming, text_at};
 ghost use Rattle.zq_machine.specs.TextCalls.{naming, unnaming};
-ghost use Rattle.zq_gateway.specs.Making.{Performs, Settles};
+ghost use Rattle.zq_gateway.specs.Making.{Makes, Settles};
 
 use crate::tables::Tables;
 use zq_key::memory::OutOfMemory;
@@ -55,7 +55,7 @@ impl Tables {
         id: u16,
         wire: &WireExpr,
     ) -> Result<Step, OutOfMemory>
-        ensures { Performs self.old self.new (call.DeclareKeyExpr face id wire.now) result }
+        ensures { Makes self.old self.new (call.DeclareKeyExpr face id wire.now) result }
     {
         let said = self.said(face, wire)?;
         self.declare_key(face, id, &said)

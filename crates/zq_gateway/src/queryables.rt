@@ -5,7 +5,7 @@ ghost use Rattle.zq_machine.specs.Deciding.{refusal_of};
 ghost use Rattle.zq_machine.specs.State.{face_region};
 ghost use Rattle.zq_machine.specs.TextCalls.{declaring, finalizing, withdrawing};
 ghost use Rattle.zq_gateway.specs.Gathering.{Gathers, OnlyIdsLack};
-ghost use Rattle.zq_gateway.specs.Making.{IsReached, Performs, Settles};
+ghost use Rattle.zq_gateway.specs.Making.{IsReached, Makes, Settles};
 
 use crate::leaving::done_telling;
 use crate::tables::Tables;
@@ -206,7 +206,7 @@ impl Tables {
         node: u16,
     ) -> Result<Step, OutOfMemory>
         requires { IsReached self.old }
-        ensures { Performs self.old self.new (call.DeclareQueryable face id wire.now info node) result }
+        ensures { Makes self.old self.new (call.DeclareQueryable face id wire.now info node) result }
     {
         let said = self.said(face, wire)?;
         if self.is_routing(face) {
@@ -224,7 +224,7 @@ impl Tables {
         node: u16,
     ) -> Result<Step, OutOfMemory>
         requires { IsReached self.old }
-        ensures { Performs self.old self.new (call.UndeclareQueryable face id wire.now node) result }
+        ensures { Makes self.old self.new (call.UndeclareQueryable face id wire.now node) result }
     {
         if self.is_routing(face) {
             let said = self.said_or_none(face, wire)?;

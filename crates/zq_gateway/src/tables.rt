@@ -10,7 +10,9 @@ ghost use Rattle.zq_machine.specs.State.{at, face_region, is_open, opening_state
 ghost use Rattle.zq_machine.specs.TextCalls.{listing};
 ghost use Rattle.zq_tables.specs.Naming.{has_context};
 ghost use Rattle.zq_gateway.specs.Contexts.{has_standing};
-ghost use Rattle.zq_gateway.specs.Making.{IsReached, Performs, MayPerform, Settles};
+ghost use Rattle.zq_kept.specs.Current.{AreCurrent, KeepsNamed};
+ghost use Rattle.zq_gateway.specs.Caching.{KeepsAsked, may_region_changed, region_changed};
+ghost use Rattle.zq_gateway.specs.Making.{IsReached, Makes, MayMake, Settles};
 ghost use Rattle.zq_dispatcher.specs.Seats.{seats};
 
 use std::alloc::Global;
@@ -21,6 +23,7 @@ use zq_egress::FaceMuxes;
 use zq_egress::write::written_final;
 use zq_hat::hat::Hat;
 use zq_interests::interests::Interests;
+use zq_kept::cache::RouteCache;
 use zq_key::items::Items;
 use zq_key::memory::OutOfMemory;
 use zq_key::message::{Declare, DeclareBody, FaceId, Region, Request, Response};
@@ -147,11 +150,15 @@ impl Tables {
         &self.interests
     }
 
-    /// Performs a call: one event, which is answered by a step. The first cause that holds refuses it,
+    /// Makes a call: one event, which is answered by a step. The first cause that holds refuses it,
     /// and then nothing changes; a call that finds no memory changes nothing either.
-    pub fn call(&mut self, call: &Call) -> Result<Step, OutOfMemory>
-        requires { IsReached self.old }
-        ensures { Performs self.old self.new call.now result }
+    pub fn call(&mut self, routes: &mut RouteCache, call: &Call) -> Result<Step, OutOfMemory>
+        requires reached { IsReached self.old }
+        requires current { AreCurrent routes.old self.old.core.hats }
+        ensures makes { Makes self.old self.new call.now result }
+        ensures kept { OnOk result (KeepsAsked self.old routes.new call.now) }
+        ensures current { AreCurrent routes.new self.old.core.hats }
+        ensures stays { KeepsNamed self.old.names routes.old routes.new }
     {
         match call {
             Call::Open(asked) => self.open(asked),
@@ -171,7 +178,7 @@ impl Tables {
                 wire,
                 node,
             } => self.unregister(*face, *id, wire, *node),
-            Call::Request { face, request, now } => self.send_request(*face, request, *now),
+            Call::Request { face, request, now } => self.send_request(routes, *face, request, *now),
             Call::Response { face, response } => self.send_response(*face, response),
             Call::ResponseFinal { face, rid } => self.response_final(*face, *rid),
             Call::Sent { reply } => self.report(*reply),
@@ -194,20 +201,25 @@ impl Tables {
     /// A request of a face, with its expression read.
     pub fn send_request(
         &mut self,
+        routes: &mut RouteCache,
         face: FaceId,
         msg: &Request,
         now: u64,
     ) -> Result<Step, OutOfMemory>
-        requires { IsReached self.old }
-        ensures { Performs self.old self.new (call.Request face msg.now now) result }
+        requires reached { IsReached self.old }
+        requires current { AreCurrent routes.old self.old.core.hats }
+        ensures makes { Makes self.old self.new (call.Request face msg.now now) result }
+        ensures kept { OnOk result (KeepsAsked self.old routes.new (call.Request face msg.now now)) }
+        ensures current { AreCurrent routes.new self.old.core.hats }
+        ensures stays { KeepsNamed self.old.names routes.old routes.new }
     {
         let said = self.asked_said(face, msg)?;
-        self.request(face, said, msg, now)
+        self.request(routes, face, said, msg, now)
     }
 
     /// A reply of a target, with its expression read.
     pub fn send_response(&mut self, face: FaceId, msg: &Response) -> Result<Step, OutOfMemory>
-        ensures { Performs self.old self.new (call.Response face msg.now) result }
+        ensures { Makes self.old self.new (call.Response face msg.now) result }
     {
         let said = self.said_by_reply(face, msg)?;
         self.reply(face, said, msg)
@@ -216,7 +228,7 @@ impl Tables {
     /// A declaration of a face.
     pub fn send_declare(&mut self, face: FaceId, msg: &Declare) -> Result<Step, OutOfMemory>
         requires reached { IsReached self.old }
-        ensures { MayPerform self.old self.new (declared_call face msg.now) result }
+        ensures { MayMake self.old self.new (declared_call face msg.now) result }
     {
         match &msg.body {
             DeclareBody::DeclareKeyExpr { id, wire } => self.name_key(face, *id, wire),
@@ -353,6 +365,39 @@ impl Tables {
         match self.faces.get(&face.0) {
             Some(opened) => Some(*opened),
             None => None,
+        }
+    }
+
+    /// The region whose hat the call changes, if it changes one.
+    pub(crate) fn region_changed(&self, call: &Call) -> Option<Region>
+        requires { IsReached self.now }
+        ensures { result ≡ region_changed self.now call.now }
+    {
+        match call {
+            Call::Open(asked) => Some(asked.region),
+            Call::SetNetwork { region, .. } => Some(*region),
+            Call::Close { face } => self.region_of(*face),
+            Call::DeclareQueryable { face, .. } => self.region_of(*face),
+            Call::UndeclareQueryable { face, .. } => self.region_of(*face),
+            Call::FinalizeInterest { face, .. } => self.region_of(*face),
+            Call::SetNodeIds { face, .. } => self.region_of(*face),
+            _ => None,
+        }
+    }
+
+    /// The region whose hat the call changes that a declaration makes, if it makes one that does.
+    pub(crate) fn region_declared(&self, face: FaceId, msg: &Declare) -> Option<Region>
+        requires { IsReached self.now }
+        ensures { result ≡ may_region_changed self.now (declared_call face msg.now) }
+    {
+        match &msg.body {
+            DeclareBody::DeclareQueryable { .. } => self.region_of(face),
+            DeclareBody::UndeclareQueryable { .. } => self.region_of(face),
+            DeclareBody::DeclareFinal => match msg.interest {
+                Some(0) => self.region_of(face),
+                _ => None,
+            },
+            _ => None,
         }
     }
 

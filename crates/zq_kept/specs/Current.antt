@@ -10,6 +10,7 @@ use Rattle.zq_strategy.specs.Regions.{same_region}
 use Rattle.zq_strategy.specs.State.{HatState}
 use Rattle.zq_machine.specs.Selecting.{AskerState}
 use Rattle.zq_machine.specs.State.{hat_at, is_region}
+use Rattle.zq_tables.specs.Naming.{NamingState, has_context}
 use Rattle.zq_kept.specs.Table.{Table, route_of}
 
 -- the lists of offers that are kept, by text, by the region that offers, and by the region and the node that ask
@@ -43,3 +44,7 @@ IsKeptFor a key t h = IfSome (node_for a h) (λ n. is_some (route_of h.region ke
 -- each list that was kept is kept
 abbrev pub Keeps : KeptOffers → KeptOffers → Type 0
 Keeps old new = (r : Region) (k : List ℕ) (s : Region) (n : ℕ) → is_some (route_of r k s n old) ≡ true → is_some (route_of r k s n new) ≡ true
+
+-- each list that was kept on a text whose node the names have is kept
+abbrev pub KeepsNamed : NamingState → KeptOffers → KeptOffers → Type 0
+KeepsNamed names old new = (r : Region) (k : List ℕ) (s : Region) (n : ℕ) → has_context k names ≡ true → is_some (route_of r k s n old) ≡ true → is_some (route_of r k s n new) ≡ true

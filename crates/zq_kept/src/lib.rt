@@ -4,9 +4,11 @@
 //! - `asking`: who asks on which key, and what is kept for its request
 //! - `pick`: which offers of the lists that are kept it is handed to
 //! - `offers`: the offers of a request, and what becomes of those that are kept
+//! - `cache`: the offers that a gateway keeps, and how much room they take
 #![tactic(auto)]
 
 pub mod asking;
+pub mod cache;
 pub mod offers;
 mod pick;
 pub mod table;

@@ -19,7 +19,7 @@ impl Gateway {
     /// wait for nothing: before it a `poll` releases nothing, and at it some entry. It looks at the first
     /// of the deadlines in order, and at nothing else, and takes no memory.
     pub fn next_deadline(&self) -> Option<u64>
-        ensures { IsNextDeadline self.now.core.queries.records result }
+        ensures { IsNextDeadline self.now.state.core.queries.records result }
     {
         self.tables.next_deadline()
     }
