@@ -22,6 +22,8 @@ use Rattle.zq_machine.proofs.face.OpenFace.TheSendSync as face
 use Rattle.zq_machine.specs.contracts.config.Config as Config
 use Rattle.zq_egress.proofs.face_muxes.FaceMuxes.TheSendSync as gates
 use Rattle.zq_egress.specs.contracts.face_muxes.FaceMuxes as Gates
+use Rattle.zq_kept.proofs.cache.RouteCache.TheSendSync as cache
+use Rattle.zq_kept.specs.contracts.cache.RouteCache as RouteCache
 use Rattle.zq_gateway.specs.contracts.tables.Tables as Tables
 use Rattle.zq_gateway.specs.contracts.tables.Tables.TheInside as TablesIn
 use Rattle.zq_gateway.specs.contracts.gateway.Gateway as Gateway
@@ -67,4 +69,4 @@ tables_send = view_send _ _ _ _ _ (declared_send TablesIn.the_type (
 ))
 
 pub gateway_send : IsSend Gateway.the_row
-gateway_send = view_send _ _ _ _ _ (declared_send GatewayIn.the_type (as_row_send Tables.the_field tables_send, tt))
+gateway_send = view_send _ _ _ _ _ (declared_send GatewayIn.the_type (as_row_send Tables.the_field tables_send, (as_row_send RouteCache.the_field cache.the_send, tt)))

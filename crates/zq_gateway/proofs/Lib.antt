@@ -1,5 +1,7 @@
+pub mod Asked
 pub mod Asking
 pub mod Beside
+pub mod Changed
 pub mod Crossing
 pub mod Deadlines
 pub mod Due
@@ -12,6 +14,8 @@ pub mod Hearing
 pub mod Networked
 pub mod Openings
 pub mod Passing
+pub mod Performed
+pub mod Placed
 pub mod Quiet
 pub mod Reached
 pub mod Requesting

@@ -111,6 +111,7 @@ impl Tables {
     }
 
     // A request of a face.
+    #[tactic(auto, using(crate::proofs::Asked::kept_for))]
     pub(crate) fn request(
         &mut self,
         routes: &mut RouteCache,

@@ -26,7 +26,7 @@ loop-call-preserved c =
     record {
       told =
           (λ j. answered j ++ steps_from (c.in_ok-call.ensures.after j) (drop (index + 1) calls))
-          ∙ told_on calls index c.call-item.result c.loop-call.gateway c.loop-call.steps _ c.loop-call-test.true c.call-item.is c.loop-call.invariant.told;
+          ∙ told_on calls index c.call-item.result c.loop-call.gateway.state c.loop-call.steps _ c.loop-call-test.true c.call-item.is c.loop-call.invariant.told;
     }
 
 pub returns-clause-headline : goal.returns-clause-headline

@@ -4,5 +4,5 @@ use Rattle.zq_gateway.proofs.runs.replay.Given as goal
 
 abbrev pub invariant-loop-call : goal.invariant-loop-call
 invariant-loop-call l = record {
-  told : l.steps ++ steps_from l.gateway (drop l.call-index l.calls) ≡ steps l.config l.calls;
+  told : l.steps ++ steps_from l.gateway.state (drop l.call-index l.calls) ≡ steps l.config l.calls;
 }

@@ -1,9 +1,18 @@
+use Rattle.std.proofs.Common.{subst, Some}
 use Rattle.zq_machine.specs.declared.call.Call.TheVariants as call
-use Rattle.zq_gateway.proofs.Reached.{reached_given}
+use Rattle.zq_machine.specs.State.{State}
+use Rattle.zq_gateway.specs.Caching.{Cached}
+use Rattle.zq_gateway.specs.Making.{MayPerform}
+use Rattle.zq_gateway.proofs.Performed.{always, goes_none, left_sound, named_same, performed}
 use Rattle.zq_gateway.proofs.gateway.Gateway.poll.Goals as goal
 
 pub invariant_of-self : goal.invariant_of-self
-invariant_of-self c = reached_given c.self.inside.tables _ (call.Poll c.args.now) _ c.pass.result c.pass.ensures c.self.invariant
+invariant_of-self c =
+    let s : State = c.self.inside.tables in
+    left_sound s c.pass.new.self c.self.inside.routes c.self.inside.routes (Some (call.Poll c.args.now)) c.pass.result c.pass.ensures (goes_none c.pass.result c.self.inside.routes) c.self.invariant.0 c.self.invariant.1
 
 pub returns : goal.returns
-returns c = rw (← c.self.view_is) c.pass.ensures
+returns c =
+    let s : State = c.self.inside.tables in
+    subst (λ (g : Cached). MayPerform g (record { state = c.pass.new.self; routes = c.self.inside.routes }) (Some (call.Poll c.args.now)) c.pass.result) c.self.view_is
+    (performed s c.pass.new.self c.self.inside.routes c.self.inside.routes c.self.inside.routes (Some (call.Poll c.args.now)) c.pass.result c.pass.ensures (named_same s.names c.self.inside.routes) (always c.pass.result) (goes_none c.pass.result c.self.inside.routes))

@@ -1,12 +1,18 @@
-use Rattle.std.proofs.Common.{subst}
+use Rattle.std.proofs.Common.{subst, Some}
 use Rattle.zq_machine.specs.declared.call.Call.TheVariants as call
 use Rattle.zq_machine.specs.State.{State}
-use Rattle.zq_gateway.specs.Making.{Performs}
-use Rattle.zq_gateway.proofs.Reached.{reached_given}
+use Rattle.zq_gateway.specs.Caching.{Cached}
+use Rattle.zq_gateway.specs.Making.{MayPerform}
+use Rattle.zq_gateway.proofs.Performed.{always, goes_none, left_sound, named_same, performed}
 use Rattle.zq_gateway.proofs.gateway.Gateway.send_interest_final.Goals as goal
 
 pub invariant_of-self : goal.invariant_of-self
-invariant_of-self c = reached_given c.self.inside.tables _ (call.InterestFinal c.args.face c.args.id) _ c.unregister_interest.result c.unregister_interest.ensures c.self.invariant
+invariant_of-self c =
+    let s : State = c.self.inside.tables in
+    left_sound s c.unregister_interest.new.self c.self.inside.routes c.self.inside.routes (Some (call.InterestFinal c.args.face c.args.id)) c.unregister_interest.result c.unregister_interest.ensures (goes_none c.unregister_interest.result c.self.inside.routes) c.self.invariant.0 c.self.invariant.1
 
 pub returns : goal.returns
-returns c = subst (λ (s : State). Performs s c.unregister_interest.new.self (call.InterestFinal c.args.face c.args.id) c.unregister_interest.result) c.self.view_is c.unregister_interest.ensures
+returns c =
+    let s : State = c.self.inside.tables in
+    subst (λ (g : Cached). MayPerform g (record { state = c.unregister_interest.new.self; routes = c.self.inside.routes }) (Some (call.InterestFinal c.args.face c.args.id)) c.unregister_interest.result) c.self.view_is
+    (performed s c.unregister_interest.new.self c.self.inside.routes c.self.inside.routes c.self.inside.routes (Some (call.InterestFinal c.args.face c.args.id)) c.unregister_interest.result c.unregister_interest.ensures (named_same s.names c.self.inside.routes) (always c.unregister_interest.result) (goes_none c.unregister_interest.result c.self.inside.routes))

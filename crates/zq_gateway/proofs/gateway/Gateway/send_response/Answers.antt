@@ -1,9 +1,18 @@
+use Rattle.std.proofs.Common.{subst, Some}
 use Rattle.zq_machine.specs.declared.call.Call.TheVariants as call
-use Rattle.zq_gateway.proofs.Reached.{reached_given}
+use Rattle.zq_machine.specs.State.{State}
+use Rattle.zq_gateway.specs.Caching.{Cached}
+use Rattle.zq_gateway.specs.Making.{MayPerform}
+use Rattle.zq_gateway.proofs.Performed.{always, goes_none, left_sound, named_same, performed}
 use Rattle.zq_gateway.proofs.gateway.Gateway.send_response.Goals as goal
 
 pub invariant_of-self : goal.invariant_of-self
-invariant_of-self c = reached_given c.self.inside.tables _ (call.Response c.args.face c.args.msg.now) _ c.send_response.result c.send_response.ensures c.self.invariant
+invariant_of-self c =
+    let s : State = c.self.inside.tables in
+    left_sound s c.send_response.new.self c.self.inside.routes c.self.inside.routes (Some (call.Response c.args.face c.args.msg.now)) c.send_response.result c.send_response.ensures (goes_none c.send_response.result c.self.inside.routes) c.self.invariant.0 c.self.invariant.1
 
 pub returns : goal.returns
-returns c = rw (← c.self.view_is) c.send_response.ensures
+returns c =
+    let s : State = c.self.inside.tables in
+    subst (λ (g : Cached). MayPerform g (record { state = c.send_response.new.self; routes = c.self.inside.routes }) (Some (call.Response c.args.face c.args.msg.now)) c.send_response.result) c.self.view_is
+    (performed s c.send_response.new.self c.self.inside.routes c.self.inside.routes c.self.inside.routes (Some (call.Response c.args.face c.args.msg.now)) c.send_response.result c.send_response.ensures (named_same s.names c.self.inside.routes) (always c.send_response.result) (goes_none c.send_response.result c.self.inside.routes))

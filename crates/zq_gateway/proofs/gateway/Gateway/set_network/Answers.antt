@@ -1,12 +1,18 @@
-use Rattle.std.proofs.Common.{subst}
+use Rattle.std.proofs.Common.{subst, Some}
 use Rattle.zq_machine.specs.declared.call.Call.TheVariants as call
 use Rattle.zq_machine.specs.State.{State}
-use Rattle.zq_gateway.specs.Making.{Performs}
-use Rattle.zq_gateway.proofs.Reached.{reached_given}
+use Rattle.zq_gateway.specs.Caching.{Cached, LetsGo, may_region_changed}
+use Rattle.zq_gateway.specs.Making.{MayPerform}
+use Rattle.zq_gateway.proofs.Performed.{always, left_sound, named_same, performed}
 use Rattle.zq_gateway.proofs.gateway.Gateway.set_network.Goals as goal
 
 pub invariant_of-self : goal.invariant_of-self
-invariant_of-self c = reached_given c.self.inside.tables _ (call.SetNetwork c.args.region c.args.net.now) _ c.set_network.result c.set_network.ensures c.self.invariant
+invariant_of-self c =
+    let s : State = c.self.inside.tables in
+    left_sound s c.set_network-made.new.self c.self.inside.routes c.let_go.new.routes (Some (call.SetNetwork c.args.region c.args.net.now)) c.set_network-made.result c.set_network-made.ensures c.let_go.ensures c.self.invariant.0 c.self.invariant.1
 
 pub returns : goal.returns
-returns c = subst (λ (s : State). Performs s c.set_network.new.self (call.SetNetwork c.args.region c.args.net.now) c.set_network.result) c.self.view_is c.set_network.ensures
+returns c =
+    let s : State = c.self.inside.tables in
+    subst (λ (g : Cached). MayPerform g (record { state = c.set_network-made.new.self; routes = c.let_go.new.routes }) (Some (call.SetNetwork c.args.region c.args.net.now)) c.set_network-made.result) c.self.view_is
+    (performed s c.set_network-made.new.self c.self.inside.routes c.self.inside.routes c.let_go.new.routes (Some (call.SetNetwork c.args.region c.args.net.now)) c.set_network-made.result c.set_network-made.ensures (named_same s.names c.self.inside.routes) (always c.set_network-made.result) c.let_go.ensures)

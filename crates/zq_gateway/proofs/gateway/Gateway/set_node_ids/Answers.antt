@@ -1,9 +1,18 @@
+use Rattle.std.proofs.Common.{subst, Some}
 use Rattle.zq_machine.specs.declared.call.Call.TheVariants as call
-use Rattle.zq_gateway.proofs.Reached.{reached_given}
+use Rattle.zq_machine.specs.State.{State}
+use Rattle.zq_gateway.specs.Caching.{Cached, LetsGo, may_region_changed}
+use Rattle.zq_gateway.specs.Making.{MayPerform}
+use Rattle.zq_gateway.proofs.Performed.{always, left_sound, named_same, performed}
 use Rattle.zq_gateway.proofs.gateway.Gateway.set_node_ids.Goals as goal
 
 pub invariant_of-self : goal.invariant_of-self
-invariant_of-self c = reached_given c.self.inside.tables _ (call.SetNodeIds c.args.face c.args.ids.now) _ c.set_node_ids.result c.set_node_ids.ensures c.self.invariant
+invariant_of-self c =
+    let s : State = c.self.inside.tables in
+    left_sound s c.set_node_ids-made.new.self c.self.inside.routes c.let_go.new.routes (Some (call.SetNodeIds c.args.face c.args.ids.now)) c.set_node_ids-made.result c.set_node_ids-made.ensures (subst (λ r. LetsGo r c.set_node_ids-made.result c.self.inside.routes c.let_go.new.routes) c.region_of-region.ensures.region c.let_go.ensures) c.self.invariant.0 c.self.invariant.1
 
 pub returns : goal.returns
-returns c = rw (← c.self.view_is) c.set_node_ids.ensures
+returns c =
+    let s : State = c.self.inside.tables in
+    subst (λ (g : Cached). MayPerform g (record { state = c.set_node_ids-made.new.self; routes = c.let_go.new.routes }) (Some (call.SetNodeIds c.args.face c.args.ids.now)) c.set_node_ids-made.result) c.self.view_is
+    (performed s c.set_node_ids-made.new.self c.self.inside.routes c.self.inside.routes c.let_go.new.routes (Some (call.SetNodeIds c.args.face c.args.ids.now)) c.set_node_ids-made.result c.set_node_ids-made.ensures (named_same s.names c.self.inside.routes) (always c.set_node_ids-made.result) (subst (λ r. LetsGo r c.set_node_ids-made.result c.self.inside.routes c.let_go.new.routes) c.region_of-region.ensures.region c.let_go.ensures))

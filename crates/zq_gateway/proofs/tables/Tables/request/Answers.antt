@@ -13,10 +13,10 @@ use Rattle.zq_gateway.proofs.Reached.{reached_in_order}
 use Rattle.zq_gateway.proofs.Requesting.{asked_answer, asked_settle}
 use Rattle.zq_gateway.proofs.tables.Tables.request.Goals as goal
 
-pub returns : goal.returns
-returns c =
+pub returns-clause-settles : goal.returns-clause-settles
+returns-clause-settles c =
     let s : State = c.args.self.now in
-    let sound = (reached_in_order s c.requires).sound in
+    let sound = (reached_in_order s c.requires.reached).sound in
     let v = c.self.view_is in
     let w = c.self-2.view_is ∙ c.in_ok-handed.ensures.same in
     let r = c.args.request.now in
