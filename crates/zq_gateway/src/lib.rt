@@ -12,7 +12,7 @@
 //! - `reading`: expressions of faces as they are read
 //! - `requests`: requests, and whom they are handed to
 //! - `replies`: replies, finals, reports that a reply was sent, and moments that have come
-//! - `gateway`: each call is one event
+//! - `gateway`: each call is one event, behind which offers that it changed are kept no more
 //! - `demux`: the messages of a face as calls
 //! - `primitives`: what takes the messages of faces
 //! - `runs`: whole runs, with what they promise of each request, reply and final
