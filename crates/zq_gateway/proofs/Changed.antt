@@ -1,5 +1,5 @@
 -- The hats after a call: it changes that of one region at most, and a refused one changes none.
-use Rattle.std.proofs.Common.{◌≡◌, ◌∙◌, refl, sym, ap, absurd, ℕ, Bool, true, false, true≢false, cond, List, [], ◌∷◌, Option, Some, None}
+use Rattle.std.proofs.Common.{◌≡◌, ◌∙◌, refl, sym, ap, ℕ, Bool, true, false, true≢false, cond, List, [], ◌∷◌, Option, Some, None}
 use Rattle.std.specs.Option.{option_map, option_map_or}
 use Rattle.zq_message.specs.declared.message.Region.{Region}
 use Rattle.zq_strategy.specs.Kept.{registered, unregistered, without_face}
@@ -29,7 +29,7 @@ of_face None f hats = (f, refl)
 of_face (Some x) f hats = (f, refl)
 
 -- the region whose hat a call changes whose expressions are read
-region_by : Core → TextCall → Option Region
+abbrev region_by : Core → TextCall → Option Region
 region_by c (opening o) = Some o.region
 region_by c (closing face) = face_region face.0 c
 region_by c (naming face id s standing) = None

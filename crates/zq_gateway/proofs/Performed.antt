@@ -22,7 +22,7 @@ use Rattle.zq_gateway.specs.Making.{IsReached, MayMake, MayPerform}
 use Rattle.zq_gateway.proofs.Changed.{Changes, accepted_changes, refused_hats, spared_hats, without_region}
 use Rattle.zq_gateway.proofs.Reached.{reached_after, reached_may}
 
-hats_in : State → List (ℕ × HatState)
+abbrev hats_in : State → List (ℕ × HatState)
 hats_in s = s.core.hats
 
 -- what is kept is right after the call

@@ -6,7 +6,7 @@ use Rattle.zq_gateway.proofs.Reached.{reached_opening}
 use Rattle.zq_gateway.proofs.gateway.Gateway.new.Goals as goal
 
 pub invariant_of-result : goal.invariant_of-result
-invariant_of-result c = (rw c.in_ok-new.ensures.opening (reached_opening c.args.config.now c.in_ok-new.ensures.low), c.in_ok-new-2.ensures c.in_ok-new.new.core.hats)
+invariant_of-result c = (rw c.in_ok-new.ensures.opening (reached_opening c.args.config.now c.in_ok-new.ensures.low), c.in_ok-new-2.ensures _)
 
 pub returns-clause-headline : goal.returns-clause-headline
 returns-clause-headline c = valid_keep c.args.config.now (ap bad_config (sym c.entries-valid.ensures.entries) ∙ c.entries-valid.ensures.valid)

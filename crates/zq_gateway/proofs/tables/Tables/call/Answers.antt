@@ -1,5 +1,7 @@
 use Rattle.std.proofs.Common.{subst, sym}
+use Rattle.std.specs.Prelude.{OnOk}
 use Rattle.zq_machine.specs.declared.call.Call.{Call}
+use Rattle.zq_gateway.specs.Caching.{KeepsAsked}
 use Rattle.zq_gateway.specs.Making.{Makes}
 use Rattle.zq_gateway.proofs.tables.Tables.call.Goals as goal
 
@@ -32,3 +34,6 @@ returns-in-Interest-clause-makes c = subst (λ (x : Call). Makes c.args.self.now
 
 pub returns-in-InterestFinal-clause-makes : goal.returns-in-InterestFinal-clause-makes
 returns-in-InterestFinal-clause-makes c = subst (λ (x : Call). Makes c.args.self.now c.unregister_interest.new.self x c.unregister_interest.result) (sym c.in-InterestFinal.is) c.unregister_interest.ensures
+
+pub returns-in-Request-clause-kept : goal.returns-in-Request-clause-kept
+returns-in-Request-clause-kept c = subst (λ (x : Call). OnOk c.send_request.result (KeepsAsked c.args.self.now c.send_request.new.routes x)) (sym c.in-Request.is) c.send_request.ensures.kept
