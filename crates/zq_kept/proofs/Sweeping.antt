@@ -5,6 +5,8 @@ use Rattle.zq_message.specs.declared.message.Region.{Region}
 use Rattle.zq_message.specs.Region.{region_index}
 use Rattle.zq_index.specs.Texts.{at_text}
 use Rattle.zq_tables.specs.Naming.{NamingState, has_context}
+use Rattle.std.specs.Option.{is_some}
+use Rattle.zq_kept.specs.Current.{Keeps, KeepsNamed, KeptOffers}
 use Rattle.zq_kept.specs.Table.{Fewer, IsTable, NamedRoutes, NamedStay, OfText, Table, route_in, route_of, routes_to}
 
 left_by : {X : Type 0} (b : Bool) (o : Option X) (x : X) → cond b o None ≡ Some x → o ≡ Some x
@@ -29,3 +31,7 @@ module _ {T : Type 0} (old new : Table T) (names : NamingState) (routes : NamedR
 
   pub swept_stay : NamedStay old new names
   swept_stay r k s n named = routes r k s n ∙ ap (λ b. cond b (route_of r k s n old) None) named
+
+-- once room is made, the lists that were kept on a text whose node the names have are kept
+pub room_stays : (old swept new : KeptOffers) (names : NamingState) → NamedStay old swept names → Keeps swept new → KeepsNamed names old new
+room_stays old swept new names stay keeps r k s n named there = keeps r k s n (ap is_some (stay r k s n named) ∙ there)

@@ -1,4 +1,4 @@
-//! The offers that a gateway keeps, and how much room they take.
+//! The offers that are kept, in a room that their texts may take.
 ghost use Rattle.std.specs.Prelude.{◌≡◌, ℕ, List, [], true, IfOk, OnOk, IfSome, Some, IsTrue, map, option_copied};
 ghost use Rattle.std.specs.List.{All};
 ghost use Rattle.std.specs.Map.{values_of};
@@ -17,7 +17,7 @@ ghost use Rattle.zq_kept.specs.Current.{AreCurrent, ArePlaced, IsKeptFor, KeepsN
 ghost use Rattle.zq_kept.specs.Table.{Fewer, route_of};
 
 use crate::asking::{Asking, KeptOffers};
-use crate::offers::{kept_at, let_go, make_room, none_kept, offers_for};
+use crate::offers::{FEW_TEXTS, kept_at, let_go, make_room, none_kept, offers_for};
 use std::alloc::Global;
 use std::marker::Model;
 use zq_key::memory::OutOfMemory;
@@ -53,12 +53,14 @@ impl RouteCache {
     {
         Ok(RouteCache {
             offers: none_kept(alloc)?,
-            limit: 64,
+            limit: FEW_TEXTS,
         })
     }
 
-    /// The offers that the asker's request on a key is handed to under a choice, of each face one. Where the
-    /// names have the key's node, what regions offer on it is kept from then on; want of memory answers so.
+    /// The offers that the asker's request on a key is handed to under a choice, of each face one, once room
+    /// is made. Where the names have the key's node, what regions offer on it is kept from then on; want of
+    /// memory answers so.
+    #[tactic(auto, using(crate::proofs::Sweeping::room_stays))]
     pub fn offers_for(
         &mut self,
         asking: &Asking,

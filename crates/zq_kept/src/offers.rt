@@ -27,7 +27,7 @@ use zq_strategy::types::{OfferList, QueryTargetQabl};
 use zq_tables::naming::Naming;
 
 // So many texts are not worth a look at all of them.
-const FEW_TEXTS: usize = 64;
+pub(crate) const FEW_TEXTS: usize = 64;
 
 /// No offers are kept.
 #[tactic(auto, using(crate::proofs::Current::none_current))]
