@@ -110,6 +110,7 @@ asked_declared s t face d r = by d.body
         sent : (b : Bool) → OnOk r (MayKeepAsked s t (cond b (Some (call.FinalizeInterest face mark.Initial true)) None))
         sent true = always r
         sent false = always r
+
     by : (b : DeclareBody) → OnOk r (MayKeepAsked s t (declaring_call face d.node d.interest b))
     by (body.DeclareKeyExpr id wire) = always r
     by (body.UndeclareKeyExpr id) = always r
