@@ -19,6 +19,7 @@ ghost use Rattle.zq_gateway.specs.Making.{Performs, MayPerform};
 ghost use Rattle.zq_hat.specs.Sourced.{all_queriers, all_queryables};
 
 mod deadline;
+mod sourced;
 
 use crate::tables::Tables;
 use std::alloc::Global;
