@@ -21,6 +21,7 @@ ghost use Rattle.zq_hat.specs.Sourced.{all_queriers, all_queryables};
 
 mod cached;
 mod deadline;
+mod sourced;
 
 use crate::tables::Tables;
 use std::alloc::Global;

@@ -13,3 +13,5 @@ pub mod Listing
 pub mod Parts
 pub mod Regions
 pub mod AllPut
+pub mod OnAsked
+pub mod Declarers

@@ -9,11 +9,11 @@ use Rattle.zq_hat.specs.Sourced.{all_queriers, all_queryables, querier_listings,
 use Rattle.zq_hat.proofs.Listing.{are_listed}
 use Rattle.zq_hat.proofs.Parts.{are_joined}
 
-queryables_ordered : (own : Source) (hats : List (ℕ × HatState)) → AllByRecursion IsOrdered (map (queryables_part own) hats)
+pub queryables_ordered : (own : Source) (hats : List (ℕ × HatState)) → AllByRecursion IsOrdered (map (queryables_part own) hats)
 queryables_ordered own [] = tt
 queryables_ordered own (h ∷ hs) = ((are_listed (queryable_listings h.1)).ordered, queryables_ordered own hs)
 
-queriers_ordered : (ints : Interests) (hats : List (ℕ × HatState)) → AllByRecursion IsOrdered (map (queriers_part ints) hats)
+pub queriers_ordered : (ints : Interests) (hats : List (ℕ × HatState)) → AllByRecursion IsOrdered (map (queriers_part ints) hats)
 queriers_ordered ints [] = tt
 queriers_ordered ints (h ∷ hs) = ((are_listed (querier_listings ints h.1)).ordered, queriers_ordered ints hs)
 

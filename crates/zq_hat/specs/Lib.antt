@@ -6,3 +6,4 @@ pub mod Sourced
 pub mod Infos
 pub mod Status
 pub mod Unreached
+pub mod Asked

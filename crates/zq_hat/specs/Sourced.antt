@@ -1,6 +1,7 @@
 -- Who declared each key of a region, and who asks for it; and of all regions.
-use Rattle.std.specs.Prelude.{ℕ, List, [], filter, map, Option, Some, None, option_map, if◌then◌else◌}
+use Rattle.std.specs.Prelude.{ℕ, Bool, List, [], filter, map, Option, Some, None, option_map, if◌then◌else◌}
 use Rattle.std.specs.List.{filter_map, flat_map}
+use Rattle.zq_key.specs.Key.{intersects}
 use Rattle.zq_message.specs.declared.message.Mode.{Mode}
 use Rattle.zq_message.specs.declared.message.Mode.TheVariants as mode
 use Rattle.zq_message.specs.declared.message.QueryableInfoType.{QueryableInfoType}
@@ -113,3 +114,17 @@ queriers_part ints h = (None, sourced_queriers ints h.1)
 -- who asks for each key: region by region, in the order of their places
 abbrev pub all_queriers : Interests → List (ℕ × HatState) → SourceTexts
 all_queriers ints hats = parts_joined (map (queriers_part ints) hats)
+
+-- ---- on keys that meet one that is asked for
+
+-- the entry's key meets the one that is asked for
+abbrev pub is_asked : {V : Type 0} → List ℕ → List ℕ × V → Bool
+is_asked asked e = intersects asked e.0
+
+-- who declared each key that meets the one that is asked for
+abbrev pub queryables_on : List ℕ → Source → List (ℕ × HatState) → SourceTexts
+queryables_on asked own hats = filter (is_asked asked) (all_queryables own hats)
+
+-- who asks for each key that meets the one that is asked for
+abbrev pub queriers_on : List ℕ → Interests → List (ℕ × HatState) → SourceTexts
+queriers_on asked ints hats = filter (is_asked asked) (all_queriers ints hats)

@@ -1,5 +1,5 @@
 -- The entries of routers to which no way leads.
-use Rattle.std.specs.Prelude.{ℕ, Bool, List, [], Option, Some, None, filter, is_none, map}
+use Rattle.std.specs.Prelude.{ℕ, Bool, List, Option, filter, is_none, map}
 use Rattle.std.specs.List.{flat_map}
 use Rattle.std.specs.Option.{option_and_then}
 use Rattle.zq_message.specs.declared.message.QueryableInfoType.{QueryableInfoType}

@@ -8,6 +8,7 @@
 //! - `gathered`: the ids on each key, as they are gathered
 //! - `queryables`: who declared each key, of a region and of all
 //! - `queriers`: who asks for each key, of a region and of all
+//! - `asked`: who declared the keys that meet one that is asked for, and who asks for them
 //! - `joining`: what regions have on each key, one behind another
 //! - `laws`: what lists of sources say, key by key, as contracts
 //! - `infos`: what a region has on each of its keys
@@ -17,6 +18,7 @@
 //! - `queries`: `HatQueriesTrait`, and `Hat` as one that has it
 #![tactic(auto)]
 
+pub mod asked;
 pub mod face;
 mod faces;
 mod gathered;

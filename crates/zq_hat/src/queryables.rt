@@ -74,7 +74,7 @@ fn faces_queryables(
 }
 
 /// The routers with these entries on the key join those on it, but for the gateway itself.
-fn add_routers(
+pub(crate) fn add_routers(
     all: &mut Gathered,
     alloc: Global,
     own: Zid,
@@ -127,7 +127,7 @@ pub fn sourced_queryables(alloc: Global, hat: &Hat) -> Result<SourceList, OutOfM
 }
 
 /// The gateway itself, where it counts behind what the region has: not in North.
-fn own_behind(own: Source, hat: &Hat) -> Option<Source>
+pub(crate) fn own_behind(own: Source, hat: &Hat) -> Option<Source>
     ensures { result ≡ own_behind own hat.now }
 {
     match hat.region() {
