@@ -65,7 +65,7 @@ says w f = said_of f.numbers (entered_by f.space w)
 abbrev pub with_theirs : Face → List (ℕ × List ℕ) → Face
 with_theirs f names = record f { numbers = record f.numbers { theirs = names } }
 
--- with a mark set, or unset
+-- with a mark set, or unset: that all that it had to declare has come, at its opening or on a key
 abbrev pub with_mark : FinalMark → Bool → Face → Face
 with_mark mark.Initial set f = record f { initial = set }
 with_mark (mark.Key key) true f = record f { finalized = insert_key text_cmp f.finalized key }

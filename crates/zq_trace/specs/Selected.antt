@@ -65,11 +65,11 @@ faces_in past r = filter_map (λ n. option_and_then (in_region r n) (face_at pas
 
 -- ---- what routers announced
 
--- what a face of the region makes of the routers there: the router is the one that a node of the face stands for
+-- what a face of the region makes of the routers there: the one that it speaks for is the one that its node stands for
 abbrev pub by_router : Region → ℕ → (Face → Routed → Zid → Routed) → Routed → Face → Routed
 by_router r node makes was f = if region_index f.region == region_index r then option_map_or (makes f was) (slice_get f.nodes.ids node) was else was
 
--- what a call makes of the routers of a region: their entries, and the network that is put in place
+-- what an accepted call makes of the routers of a region: of their entries on keys, or of the network that is put in place
 abbrev pub announced : Region → Call → Trace → Routed → Routed
 announced r (call.DeclareQueryable face id w info node) past was = option_map_or (by_router r node (λ f. with_routed (full_text (says w f)) info) was) (face_at past face.0) was
 announced r (call.UndeclareQueryable face id w node) past was = option_map_or (by_router r node (λ f. without_routed (option_map_or (λ x. full_text (says x f)) w [])) was) (face_at past face.0) was
@@ -83,11 +83,11 @@ routers (x ∷ past) r = if is_accepted x.1.outcome then announced r x.0 past (r
 
 -- ---- what a region offers
 
--- an open face as its region has it, but for what it was told
+-- what a region has of an open face, but for the id that it was told last
 abbrev pub seen : Face → FaceState
 seen f = record { zid = f.zid; mode = f.mode; remote_bound = f.bound; declared = f.queryables; last_told = 0; initial = f.initial; finalized = f.finalized; nodes = f.nodes }
 
--- what stands of a region
+-- what stands of a region: its open faces, and what its routers announced
 abbrev pub hat_in : Settings → Trace → Region → HatState
 hat_in config past r = record { region = r; north_mode = north_of config.entries; own = config.zid; told_start = 0; faces = map (λ (f : ℕ × Face). (f.0, seen f.1)) (faces_in past r); entries = (routers past r).entries; network = (routers past r).network }
 
