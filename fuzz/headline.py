@@ -3,9 +3,8 @@
 
 usage: fuzz/headline.py SCRIPT PRINT
 
-Says `holds`, or at which call which sentence fails first; the status is then 1. The print may be any gateway's. What
-regions of clients, peers and routers offer is read off the run, too; that too few ids are left for what faces are told
-is taken from the print, where those ids are near their end.
+Says `holds`, or at which call which sentence fails first; the status is then 1. The print may be any gateway's. That
+too few ids are left for what faces are told is taken from the print, where those ids are near their end.
 """
 import copy
 import sys
@@ -65,7 +64,7 @@ class Face:
     def __init__(self, values):
         self.region, self.zid, self.bound, self.space, self.denied, _ = values
         self.theirs, self.ours, self.queryables, self.interests, self.nodes = {}, {}, {}, {}, []
-        self.initial, self.finalized = False, set()       # for `Others` alone
+        self.initial, self.finalized = False, set()
 
 
 UNSCOPED = None                       # what an expression says: None if its scope stands for nothing, b'' if it is empty
@@ -96,10 +95,7 @@ class Trace:
         self.faces, self.closed, self.opened = {}, set(), []
         self.gateways, self.requests, self.last_id = {}, [], {}
         self.pending, self.in_flight, self.next_reply = [], [], config.start[2]
-        self.networks, self.entries = {}, {}                # for `Others` alone
-
-    def routes(self, region):
-        return self.config.mode(region) == 'router'
+        self.networks, self.entries = {}, {}
 
     # Awaited.antt
     def waits(self, n):
@@ -140,15 +136,14 @@ class Trace:
             elif kind == 'unkey':
                 f.theirs.pop(v[1], None)
             elif kind == 'queryable':
-                if self.routes(f.region):
-                    self.entries.setdefault(f.region, {})[(says(v[2], f), f.nodes[v[5]])] = v[3:5]
-                else:
-                    f.queryables[v[1]] = (says(v[2], f) or b'', v[3] == 'c')
+                key, router = says(v[2], f) or b'', at(f.nodes, v[5])
+                f.queryables[v[1]] = (key, v[3] == 'c')
+                if router is not None:
+                    self.entries.setdefault(f.region, {})[(key, router)] = v[3] == 'c'
             elif kind == 'unqueryable':
-                if self.routes(f.region):
-                    self.entries.get(f.region, {}).pop((says(v[2], f) if v[2] else b'', f.nodes[v[3]]), None)
-                else:
-                    f.queryables.pop(v[1], None)
+                key, router = (says(v[2], f) or b'') if v[2] is not None else b'', at(f.nodes, v[3])
+                f.queryables.pop(v[1], None)
+                self.entries.get(f.region, {}).pop((key, router), None)
             elif kind == 'interest':
                 f.interests[v[1]] = says(v[2], f) if v[2] is not None else None
             elif kind == 'uninterest':
@@ -161,7 +156,7 @@ class Trace:
                 (f.finalized.add if v[3] == '1' else f.finalized.discard)(v[2])
         elif kind == 'gateways':
             self.gateways[v[0]] = v[1]
-        elif kind == 'network' and self.routes(v[0]):
+        elif kind == 'network':
             self.networks[v[0]] = v[1:]
             self.entries[v[0]] = {k: i for k, i in self.entries.get(v[0], {}).items() if k[1] in v[1]}
         for h in t.handed:
@@ -183,66 +178,83 @@ def ends_entry(kind, v, e):
     return kind == 'final' and e[1:3] == v[:2] or kind == 'close' and e[1] == v[0] or kind == 'poll' and e[3] <= v[0]
 
 
-# ---- Others: clients, peers and routers
+# ---- Selected.antt
 
 Offer = namedtuple('Offer', 'distance key face complete bare node region')
+NO_NETWORK = ([], [], [])            # nodes, trees and distances
 
 
 def at(items, n):
     return items[n] if n is not None and n < len(items) else None
 
 
-def place(network, zid):
+def strategy_in(past, r):
+    mode = past.config.mode(r)
+    return 'broker' if r == LOCAL or r != NORTH and mode == 'client' else mode
+
+
+def place_of(network, zid):
+    """The place of an id in a network, if a message can name it."""
     n = network[0].index(zid) if zid in network[0] else None
     return n if n is not None and n <= U16 else None
 
 
-def other_offers(past, r, asker, node, q):
-    a, own = past.faces[asker], past.config.id
-    here = [(n, f) for n, f in sorted(past.faces.items()) if f.region == r]
-    if past.routes(r):
-        network = past.networks.get(r, ([], [], []))
-        source = place(network, at(a.nodes, node) if a.region == r else own)
-        found = []
-        for (key, zid), info in past.entries.get(r, {}).items():
-            i = place(network, zid)
-            tree = at(network[1], source)
-            d = at(tree.directions, i) if tree else None
-            near = at(network[0], d) if d is not None and d <= U16 else None
-            face = next((n for n, f in here if f.zid == near), None) if near is not None else None
-            distance = at(network[2], i)
-            if intersects(key, q) and face is not None and distance is not None:
-                found.append(Offer(distance, key, face, info[0] == 'c' and includes(key, q), False, source, r))
-        return sorted(found)
-    if a.region == r:
-        return []
-    found = declared_offers(past, r, q)
-    if r == NORTH and a.region != NORTH:
-        for n, f in here:
-            by_key = past.config.north_mode == 'client' or f.bound == 'south'
-            if (q not in f.finalized) if by_key else not f.initial:
-                found.append(Offer(U16, q, n, False, True, 0, r))
-    return sorted(found)
+def place_in(past, node, f):
+    """The place of the router that a node of the face stands for; outside regions of routers the first."""
+    if strategy_in(past, f.region) != 'router':
+        return 0
+    return place_of(past.networks.get(f.region, NO_NETWORK), at(f.nodes, node))
 
 
-# ---- Selected.antt
+def faces_in(past, r):
+    return [(n, past.faces[n]) for n in past.opened if n in past.faces and past.faces[n].region == r]
+
 
 def declared_offers(past, r, q):
-    here = [(n, past.faces[n]) for n in past.opened if n in past.faces and past.faces[n].region == r]
+    here = faces_in(past, r)
     keys = sorted({key for _, f in here for key, _ in f.queryables.values()})
     return [Offer(0 if r == LOCAL else 1, key, n, any(c for k, c in f.queryables.values() if k == key) and includes(key, q), False, 0, r)
             for key in keys if intersects(key, q) for n, f in here if any(k == key for k, _ in f.queryables.values())]
 
 
-def offers_in(past, asker, node, q, r):
-    mode = past.config.mode(r)
-    if r == LOCAL or r != NORTH and mode == 'client':
-        return declared_offers(past, r, q)
-    return other_offers(past, r, asker, node, q)
+def bare_offers(past, r, src, q):
+    """In North, for askers of South, the faces that may have what they have not declared."""
+    if r != NORTH or src == NORTH:
+        return []
+    by_key = lambda f: strategy_in(past, r) == 'client' or f.bound == 'south'
+    return [Offer(U16, q, n, False, True, 0, r) for n, f in faces_in(past, r) if ((q not in f.finalized) if by_key(f) else not f.initial)]
+
+
+def router_offers(past, r, src, q, place):
+    """One offer for each router's entry on a key that meets the request's, to the face on the way to the router."""
+    network, found = past.networks.get(r, NO_NETWORK), []
+    source = None if place is None else place if src == r else place_of(network, past.config.id)
+    tree = at(network[1], source)
+    for (key, zid), complete in sorted(past.entries.get(r, {}).items()):
+        i = place_of(network, zid)
+        d = at(tree.directions, i) if tree else None
+        near = at(network[0], d) if d is not None and d <= U16 else None
+        face = next((n for n, f in faces_in(past, r) if f.zid == near), None) if near is not None else None
+        distance = at(network[2], i)
+        if intersects(key, q) and face is not None and distance is not None:
+            found.append(Offer(distance, key, face, complete and includes(key, q), False, source, r))
+    return found
+
+
+def offers_in(past, node, f, q, r):
+    """What a region offers to a face that asks for a key, with a node: by distance, key and face."""
+    strategy = strategy_in(past, r)
+    if strategy == 'router':
+        found = router_offers(past, r, f.region, q, place_in(past, node, f) if f.region == r else 0)
+    elif strategy == 'broker':
+        found = declared_offers(past, r, q)
+    else:
+        found = [] if f.region == r else declared_offers(past, r, q) + bare_offers(past, r, f.region, q)
+    return sorted(found, key=lambda o: o[:3])
 
 
 def source_of(past, node, f):
-    return at(f.nodes, node) if past.routes(f.region) else f.zid
+    return at(f.nodes, node) if strategy_in(past, f.region) == 'router' else f.zid
 
 
 def passes(past, asker, node, o):
@@ -277,7 +289,7 @@ def select(past, face, w, target, node):
     q = asked_key(past, face, w)
     if q is None:
         return []
-    regions = [[o for o in offers_in(past, face, node, q, r) if passes(past, face, node, o)]
+    regions = [[o for o in offers_in(past, node, past.faces[face], q, r) if passes(past, face, node, o)]
                for r in sorted(past.config.regions, key=region_order)]
     route = {}
     for offers in picked(past.config.best, target, regions):
@@ -375,7 +387,7 @@ def causes(past, kind, v, lacks_told):
         return [(v[0] not in c.regions, 'UnknownRegion')]
     if f is None:
         return [unknown]
-    routes = past.routes(f.region)
+    routes = strategy_in(past, f.region) == 'router'
     said = lambda w: says(w, f)
     no_router = lambda node: (source_of(past, node, f) in (None, c.id), 'UnknownRouter')
     if kind == 'key':
@@ -390,7 +402,7 @@ def causes(past, kind, v, lacks_told):
         if not routes:
             return [(v[1] not in f.queryables, 'UnknownId')]
         s = said(v[2]) if v[2] is not None else b''
-        return [*no_key(s), no_router(v[3]), ((s, source_of(past, v[3], f)) not in past.entries.get(f.region, {}), 'UnknownId')]
+        return [*no_key(s), no_router(v[3]), ((s, at(f.nodes, v[3])) not in past.entries.get(f.region, {}), 'UnknownId')]
     if kind == 'interest':
         s = said(v[2]) if v[2] is not None else None
         return [*(no_key(s) if v[2] is not None else []), (v[1] in f.interests and f.interests[v[1]] != s, 'IdInUse'), (lacks_told, 'NoFreeId')]
@@ -423,7 +435,7 @@ def granted(past, kind, v):
 
 def first_failure(past, after, kind, v, t):
     """The first sentence that the step does not keep."""
-    # that too few told ids are left is left to others: here it is taken from the print, where they are near their end
+    # that too few ids are left for what faces are told is left to a parameter: here it is taken from the print, where they are near their end
     lacks_told = t.outcome == ('refused', 'NoFreeId') and past.start[3] > 2 ** 32 - 2 ** 10
     cause = next((name for holds, name in causes(past, kind, v, lacks_told) if holds), None)
     if t.outcome != (('refused', cause) if cause else granted(past, kind, v)):

@@ -1,7 +1,7 @@
 -- Declarations have no number of a request or reply.
 use Rattle.std.proofs.Common.{◌≡◌, ◌∙◌, refl, sym, Bool, true, false, not, List, [], ◌∷◌, cond, true≢false}
 use Rattle.std.specs.Prelude.{◌||◌, ◌==◌, ℕ}
-use Rattle.std.specs.List.{AllByRecursion, filter, list_any}
+use Rattle.std.specs.List.{AllByRecursion, list_any}
 use Rattle.std.specs.Option.{is_some}
 use Rattle.zq_message.specs.declared.message.Interest.{Interest}
 use Rattle.zq_message.specs.declared.message.Message.{Message}

@@ -5,7 +5,7 @@ use Rattle.std.specs.List.{AllByRecursion, cons_option, filter_map, list_any}
 use Rattle.std.specs.List.Sorted.{IsStrictlySortedBy}
 use Rattle.std.specs.Map.{keys_of, lookup}
 use Rattle.std.specs.BTreeMap.{is_at}
-use Rattle.std.specs.Option.{option_and_then, option_map, option_map_or}
+use Rattle.std.specs.Option.{option_and_then, option_map}
 use Rattle.std.specs.Ordering.{nat_cmp}
 use Rattle.std.specs.declared.cmp.Ordering.TheVariants.{Less}
 use Rattle.std.proofs.lemmas.Bool.{or_parts}
@@ -15,7 +15,6 @@ use Rattle.std.proofs.lemmas.Map.Lookups.{exact_unsigned}
 use Rattle.zq_key.proofs.Lookups.{same_entries}
 use Rattle.zq_message.specs.declared.message.Region.{Region}
 use Rattle.zq_message.specs.Region.{region_index}
-use Rattle.zq_message.specs.RegionMap.{value_at}
 use Rattle.zq_strategy.specs.State.{FaceState, HatState}
 use Rattle.zq_machine.specs.declared.call.Call.{Call}
 use Rattle.zq_machine.specs.declared.call.Call.TheVariants as call
@@ -26,18 +25,19 @@ use Rattle.zq_machine.specs.Asked.{AreCounted, opened_in}
 use Rattle.zq_machine.specs.Configs.{Settings}
 use Rattle.zq_machine.specs.Deciding.{is_accepted}
 use Rattle.zq_machine.specs.Standing.{Standing, routes_in, standing_at}
-use Rattle.zq_machine.specs.State.{State, first_hats, hat_at, is_region, is_routing}
-use Rattle.zq_machine.proofs.Changing.{one_number, region_there}
+use Rattle.zq_machine.specs.State.{State, hat_at}
+use Rattle.zq_machine.proofs.Changing.{one_number}
 use Rattle.zq_machine.proofs.Lists.{all_weaker}
 use Rattle.zq_trace.specs.Faces.{Face, Trace, called, face_at, faces, handed_to, new_face, opened_by}
-use Rattle.zq_trace.specs.Selected.{faces_in, in_region}
+use Rattle.zq_trace.specs.Selected.{faces_in, in_region, seen}
 use Rattle.zq_machine.proofs.Determined.{hat_stands, kept_in}
 use Rattle.zq_trace.proofs.Finals.{at_number, less_so}
 use Rattle.zq_trace.proofs.Kept.{faces_are}
-use Rattle.zq_trace.proofs.Offered.{Declared, our_pair, pair_of}
+use Rattle.zq_trace.proofs.Offered.{lean, lean_faces}
+use Rattle.zq_trace.proofs.Regions.{one_region}
 use Rattle.zq_trace.proofs.Runs.{IsRun, reached, run_promise, steps_is, steps_of}
 use Rattle.zq_trace.proofs.Saying.{in_order}
-use Rattle.zq_trace.proofs.Standing.{Alike, faces_alike}
+use Rattle.zq_trace.proofs.Standing.{Alike, IsSame, faces_alike}
 
 -- ---- a face that was not opened is not there
 either_none : (b : Bool) → cond {A = Option Face} b None None ≡ None
@@ -57,6 +57,7 @@ not_called q (call.DeclareQueryable f id w i n) a h = either_none (f.0 == q)
 not_called q (call.UndeclareQueryable f id w n) a h = either_none (f.0 == q)
 not_called q (call.Interest f id k g w) a h = either_none (f.0 == q)
 not_called q (call.InterestFinal f id) a h = either_none (f.0 == q)
+not_called q (call.FinalizeInterest f m set) a h = either_none (f.0 == q)
 not_called q (call.SetNodeIds f ids) a h = either_none (f.0 == q)
 not_called q c a h = refl
 
@@ -139,70 +140,68 @@ counted_sorted n (m ∷ ms) are =
     (all_weaker (λ k. n + 1 ≤ k) (λ k. nat_cmp m k ≡ Less) (λ k l. less_so m k (omega (arith, at', l))) ms (counted_rise (n + 1) ms are.1), counted_sorted (n + 1) ms are.1)
 
 -- ---- a region
-module _ (config : Settings) (past : Trace) (run : IsRun config past) (r : Region) (h : HatState) (h_at : hat_at r (reached config past).core.hats ≡ Some h) (plain' : routes_in config r ≡ false) where
+module _ (config : Settings) (past : Trace) (run : IsRun config past) (r : Region) (h : HatState) (h_at : hat_at r (reached config past).core.hats ≡ Some h) (b : Bool) (routes : routes_in config r ≡ b) where
   abbrev s : State
   s = reached config past
 
-  abbrev here : Face → Option Declared
-  here f = if region_index f.region == region_index r then Some f.queryables else None
+  abbrev here : Face → Option FaceState
+  here f = if region_index f.region == region_index r then Some (lean b (seen f)) else None
 
-  abbrev declared_at : ℕ → Option Declared
-  declared_at n = option_and_then here (face_at past n)
+  abbrev seen_at : ℕ → Option FaceState
+  seen_at n = option_and_then here (face_at past n)
 
-  ours_listed : (ns : List ℕ) → map our_pair (filter_map (λ n. option_and_then (in_region r n) (face_at past n)) ns) ≡ listed declared_at ns
+  -- the faces of the trace, as the region has them
+  abbrev pub ours : List (ℕ × Face) → List (ℕ × FaceState)
+  ours fs = map (λ (f : ℕ × Face). (f.0, seen f.1)) fs
+
+  ours_listed : (ns : List ℕ) → lean_faces b (ours (filter_map (λ n. option_and_then (in_region r n) (face_at past n)) ns)) ≡ listed seen_at ns
   ours_listed [] = refl
   ours_listed (n ∷ ns) = by (face_at past n) (ours_listed ns)
     where
-      by : (o : Option Face) → map our_pair (filter_map (λ m. option_and_then (in_region r m) (face_at past m)) ns) ≡ listed declared_at ns
-          → map our_pair (cons_option (option_and_then (in_region r n) o) (filter_map (λ m. option_and_then (in_region r m) (face_at past m)) ns)) ≡ cons_option (option_map (λ x. (n, x)) (option_and_then here o)) (listed declared_at ns)
+      by : (o : Option Face) → lean_faces b (ours (filter_map (λ m. option_and_then (in_region r m) (face_at past m)) ns)) ≡ listed seen_at ns
+          → lean_faces b (ours (cons_option (option_and_then (in_region r n) o) (filter_map (λ m. option_and_then (in_region r m) (face_at past m)) ns))) ≡ cons_option (option_map (λ x. (n, x)) (option_and_then here o)) (listed seen_at ns)
       by None ih = ih
       by (Some f) ih = of (region_index f.region == region_index r)
         where
-          of : (b : Bool) → map our_pair (cons_option (if b then Some (n, f) else None) (filter_map (λ m. option_and_then (in_region r m) (face_at past m)) ns)) ≡ cons_option (option_map (λ x. (n, x)) (if b then Some f.queryables else None)) (listed declared_at ns)
-          of true = ap (λ l. (n, f.queryables) ∷ l) ih
+          of : (c : Bool) → lean_faces b (ours (cons_option (if c then Some (n, f) else None) (filter_map (λ m. option_and_then (in_region r m) (face_at past m)) ns))) ≡ cons_option (option_map (λ x. (n, x)) (if c then Some (lean b (seen f)) else None)) (listed seen_at ns)
+          of true = ap (λ l. (n, lean b (seen f)) ∷ l) ih
           of false = ih
 
   faces_sorted : IsStrictlySortedBy nat_cmp (faces past)
   faces_sorted = subst (IsStrictlySortedBy nat_cmp) (faces_are past) (counted_sorted config.start.faces (opened_in (steps_of past)) (subst (λ l. AreCounted config.start.faces (opened_in l)) (steps_is config past run) (run_promise config past).faces))
 
-  -- the face's region has the place of r, and so is none of routers either
-  plain_there : (g : Region) → region_index g ≡ region_index r → routes_in config g ≡ false
-  plain_there g same = by (is_region g)
-    where
-      by : (b : Bool) → option_map_or is_routing (if b then value_at (first_hats config) g else None) false ≡ false
-      by false = refl
-      by true =
-          ap (λ k. option_map_or is_routing (lookup (is_at (nat_cmp k)) (first_hats config)) false) same
-          ∙ ap (λ b. option_map_or is_routing (if b then value_at (first_hats config) r else None) false) (sym (region_there r s.core.hats h h_at).0)
-          ∙ plain'
+  -- the face as the machine has it
+  kept_same : (c : Bool) (st : Standing) (f : Face) → IsSame config st f → routes_in config st.opened.region ≡ c → lean c (seen f) ≡ lean c st.kept
+  kept_same true st f same routes' = same.kept
+  kept_same false st f same routes' = λ j. record (same.kept j) { declared = same.queryables routes' j }
 
-  one_at : (q : ℕ) (st : Option Standing) (f : Option Face) → face_at past q ≡ f → Alike config st f → option_map (λ (x : FaceState). x.declared) (kept_in r st) ≡ cond (list_any (is_at (nat_cmp q)) (faces past)) (option_and_then here f) None
+  one_at : (q : ℕ) (st : Option Standing) (f : Option Face) → face_at past q ≡ f → Alike config st f → option_map (lean b) (kept_in r st) ≡ cond (list_any (is_at (nat_cmp q)) (faces past)) (option_and_then here f) None
   one_at q None None e alike = by (list_any (is_at (nat_cmp q)) (faces past))
     where
-      by : (b : Bool) → None ≡ cond {A = Option Declared} b None None
+      by : (c : Bool) → None ≡ cond {A = Option FaceState} c None None
       by true = refl
       by false = refl
   one_at q None (Some f) e alike = absurd alike
   one_at q (Some st) None e alike = absurd alike
   one_at q (Some st) (Some f) e alike =
       by (region_index st.opened.region == region_index r) refl
-      ∙ ap (λ g. if region_index g == region_index r then Some f.queryables else None) (sym alike.region)
-      ∙ sym (ap (λ b. cond b (here f) None) (is_opened past q f e))
+      ∙ ap (λ g. if region_index g == region_index r then Some (lean b (seen f)) else None) (sym alike.region)
+      ∙ sym (ap (λ c. cond c (here f) None) (is_opened past q f e))
     where
-      by : (b : Bool) → (region_index st.opened.region == region_index r) ≡ b → option_map (λ (x : FaceState). x.declared) (cond (stands_in r st.opened) (Some st.kept) None) ≡ (if region_index st.opened.region == region_index r then Some f.queryables else None)
+      by : (c : Bool) → (region_index st.opened.region == region_index r) ≡ c → option_map (lean b) (cond (stands_in r st.opened) (Some st.kept) None) ≡ (if region_index st.opened.region == region_index r then Some (lean b (seen f)) else None)
       by true is =
-          ap (λ b. option_map (λ (x : FaceState). x.declared) (cond b (Some st.kept) None)) is
-          ∙ ap Some (sym (alike.queryables (plain_there st.opened.region (eqb-true (region_index st.opened.region) (region_index r) is))))
-          ∙ sym (ap (λ b. cond b (Some f.queryables) None) is)
-      by false is = ap (λ b. option_map (λ (x : FaceState). x.declared) (cond b (Some st.kept) None)) is ∙ sym (ap (λ b. cond b (Some f.queryables) None) is)
+          ap (λ c. option_map (lean b) (cond c (Some st.kept) None)) is
+          ∙ ap Some (sym (kept_same b st f alike (ap (routes_in config) (one_region st.opened.region r (eqb-true (region_index st.opened.region) (region_index r) is)) ∙ routes)))
+          ∙ sym (ap (λ c. cond c (Some (lean b (seen f))) None) is)
+      by false is = ap (λ c. option_map (lean b) (cond c (Some st.kept) None)) is ∙ sym (ap (λ c. cond c (Some (lean b (seen f))) None) is)
 
-  pub pairs_same : map pair_of h.faces ≡ map our_pair (faces_in past r)
-  pairs_same =
-      same_entries nat_cmp_total exact_unsigned (map pair_of h.faces) (listed declared_at (faces past))
-      (subst (IsStrictlySortedBy nat_cmp) (sym (mapped_keys (λ (x : FaceState). x.declared) h.faces)) ((in_order config past).tied.hats_sorted r h h_at))
-      (listed_sorted declared_at (faces past) faces_sorted)
-      (λ q. mapped_at q (λ (x : FaceState). x.declared) h.faces
-      ∙ ap (option_map (λ (x : FaceState). x.declared)) (hat_stands config s (in_order config past) r h h_at q)
+  pub faces_same : lean_faces b h.faces ≡ lean_faces b (ours (faces_in past r))
+  faces_same =
+      same_entries nat_cmp_total exact_unsigned (lean_faces b h.faces) (listed seen_at (faces past))
+      (subst (IsStrictlySortedBy nat_cmp) (sym (mapped_keys (lean b) h.faces)) ((in_order config past).tied.hats_sorted r h h_at))
+      (listed_sorted seen_at (faces past) faces_sorted)
+      (λ q. mapped_at q (lean b) h.faces
+      ∙ ap (option_map (lean b)) (hat_stands config s (in_order config past) r h h_at q)
       ∙ one_at q (standing_at q s) (face_at past q) refl (faces_alike config q past run)
-      ∙ sym (listed_at declared_at q (faces past)))
+      ∙ sym (listed_at seen_at q (faces past)))
       ∙ sym (ours_listed (faces past))

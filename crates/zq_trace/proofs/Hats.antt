@@ -1,5 +1,5 @@
 -- The hats of a run stand as the regions of the configuration.
-use Rattle.std.proofs.Common.{◌≡◌, ◌∙◌, refl, sym, ap, subst, ℕ, ◌+◌, ◌*◌, true, List, [], ◌∷◌, fold, map, Some, arith}
+use Rattle.std.proofs.Common.{◌≡◌, ◌∙◌, refl, sym, ap, subst, ℕ, true, List, [], ◌∷◌, fold, map, Some}
 use Rattle.std.specs.List.{AllByRecursion}
 use Rattle.std.specs.List.Sorted.{IsStrictlySortedBy}
 use Rattle.std.specs.Map.{values_of}
@@ -11,9 +11,7 @@ use Rattle.std.proofs.lemmas.Cmp.{nat_cmp_total}
 use Rattle.std.proofs.lemmas.Map.Lookups.{exact_unsigned}
 use Rattle.zq_key.proofs.Lookups.{each_entry, same_entries}
 use Rattle.zq_message.specs.declared.message.Mode.{Mode}
-use Rattle.zq_message.specs.declared.message.Mode.TheVariants as mode
 use Rattle.zq_message.specs.declared.message.Region.{Region}
-use Rattle.zq_message.specs.declared.message.Region.TheVariants as region
 use Rattle.zq_message.specs.declared.message.Zid.{Zid}
 use Rattle.zq_message.specs.Region.{region_index}
 use Rattle.zq_message.specs.RegionMap.{with_entry as with_value}
@@ -29,34 +27,6 @@ use Rattle.zq_trace.specs.Selected.{regions}
 use Rattle.zq_trace.proofs.FaceLists.{mapped_at, mapped_keys}
 use Rattle.zq_trace.proofs.Runs.{reached}
 use Rattle.zq_trace.proofs.Saying.{in_order}
-
--- ---- a region by its index
-pub one_region : (a b : Region) → region_index a ≡ region_index b → a ≡ b
-one_region region.North region.North e = refl
-one_region region.North region.Local e = absurd (let x : 0 ≡ 1 = e in omega (arith, x))
-one_region region.North (region.South j mode.Router) e = absurd (let x : 0 ≡ 2 + 3 * j + 0 = e in omega (arith, x))
-one_region region.North (region.South j mode.Peer) e = absurd (let x : 0 ≡ 2 + 3 * j + 1 = e in omega (arith, x))
-one_region region.North (region.South j mode.Client) e = absurd (let x : 0 ≡ 2 + 3 * j + 2 = e in omega (arith, x))
-one_region region.Local region.North e = absurd (let x : 1 ≡ 0 = e in omega (arith, x))
-one_region region.Local region.Local e = refl
-one_region region.Local (region.South j mode.Router) e = absurd (let x : 1 ≡ 2 + 3 * j + 0 = e in omega (arith, x))
-one_region region.Local (region.South j mode.Peer) e = absurd (let x : 1 ≡ 2 + 3 * j + 1 = e in omega (arith, x))
-one_region region.Local (region.South j mode.Client) e = absurd (let x : 1 ≡ 2 + 3 * j + 2 = e in omega (arith, x))
-one_region (region.South i mode.Router) region.North e = absurd (let x : 2 + 3 * i + 0 ≡ 0 = e in omega (arith, x))
-one_region (region.South i mode.Peer) region.North e = absurd (let x : 2 + 3 * i + 1 ≡ 0 = e in omega (arith, x))
-one_region (region.South i mode.Client) region.North e = absurd (let x : 2 + 3 * i + 2 ≡ 0 = e in omega (arith, x))
-one_region (region.South i mode.Router) region.Local e = absurd (let x : 2 + 3 * i + 0 ≡ 1 = e in omega (arith, x))
-one_region (region.South i mode.Peer) region.Local e = absurd (let x : 2 + 3 * i + 1 ≡ 1 = e in omega (arith, x))
-one_region (region.South i mode.Client) region.Local e = absurd (let x : 2 + 3 * i + 2 ≡ 1 = e in omega (arith, x))
-one_region (region.South i mode.Router) (region.South j mode.Router) e = ap (λ k. region.South k mode.Router) (let x : 2 + 3 * i + 0 ≡ 2 + 3 * j + 0 = e in let y : i ≡ j = omega (arith, x) in y)
-one_region (region.South i mode.Peer) (region.South j mode.Peer) e = ap (λ k. region.South k mode.Peer) (let x : 2 + 3 * i + 1 ≡ 2 + 3 * j + 1 = e in let y : i ≡ j = omega (arith, x) in y)
-one_region (region.South i mode.Client) (region.South j mode.Client) e = ap (λ k. region.South k mode.Client) (let x : 2 + 3 * i + 2 ≡ 2 + 3 * j + 2 = e in let y : i ≡ j = omega (arith, x) in y)
-one_region (region.South i mode.Router) (region.South j mode.Peer) e = absurd (let x : 2 + 3 * i + 0 ≡ 2 + 3 * j + 1 = e in omega (arith, x))
-one_region (region.South i mode.Router) (region.South j mode.Client) e = absurd (let x : 2 + 3 * i + 0 ≡ 2 + 3 * j + 2 = e in omega (arith, x))
-one_region (region.South i mode.Peer) (region.South j mode.Router) e = absurd (let x : 2 + 3 * i + 1 ≡ 2 + 3 * j + 0 = e in omega (arith, x))
-one_region (region.South i mode.Peer) (region.South j mode.Client) e = absurd (let x : 2 + 3 * i + 1 ≡ 2 + 3 * j + 2 = e in omega (arith, x))
-one_region (region.South i mode.Client) (region.South j mode.Router) e = absurd (let x : 2 + 3 * i + 2 ≡ 2 + 3 * j + 0 = e in omega (arith, x))
-one_region (region.South i mode.Client) (region.South j mode.Peer) e = absurd (let x : 2 + 3 * i + 2 ≡ 2 + 3 * j + 1 = e in omega (arith, x))
 
 -- ---- entries with other values
 module _ {X V : Type 0} (g : X → V) where
@@ -93,6 +63,7 @@ module _ (config : Settings) where
     pub place : e.0 ≡ region_index e.1.0
     pub small : is_region e.1.0 ≡ true
     pub north : e.1.1.0 ≡ north_of config.entries
+    pub own : e.1.1.1 ≡ config.zid
 
   abbrev pub shown_kind : ℕ × HatState → ℕ × (Region × (Mode × Zid))
   shown_kind e = (e.0, kind_of e.1)
@@ -103,14 +74,14 @@ module _ (config : Settings) where
     where
       by : (o : Ordering) → nat_cmp k e.0 ≡ o → AllByRecursion (λ x. StandsSo (shown_kind x)) (insert_entry nat_cmp es k v) → AllByRecursion (λ x. StandsSo (shown_kind x)) (match_ordering o ((k, v) ∷ e ∷ es) ((e.0, v) ∷ es) (e ∷ insert_entry nat_cmp es k v))
       by Less is rest = (it, all)
-      by Equal is rest = (record { place = sym (exact_unsigned k e.0 is) ∙ it.place; small = it.small; north = it.north }, all.1)
+      by Equal is rest = (record { place = sym (exact_unsigned k e.0 is) ∙ it.place; small = it.small; north = it.north; own = it.own }, all.1)
       by Greater is rest = (all.0, rest)
 
   first_all : (es : List Entry) (hats : List (ℕ × HatState)) → AllByRecursion (λ (e : Entry). is_region (region_of e) ≡ true) es → AllByRecursion (λ e. StandsSo (shown_kind e)) hats → AllByRecursion (λ e. StandsSo (shown_kind e)) (fold (with_hat config) hats es)
   first_all [] hats small all = all
   first_all (e ∷ es) hats small all =
       first_all es (with_hat config hats e) small.1
-      (put_all (region_index (region_of e)) (new_hat (region_of e) (north_of config.entries) config.zid config.start.told) hats (record { place = refl; small = small.0; north = refl }) all)
+      (put_all (region_index (region_of e)) (new_hat (region_of e) (north_of config.entries) config.zid config.start.told) hats (record { place = refl; small = small.0; north = refl; own = refl }) all)
 
   -- ---- the hats of a run
   module _ (past : Trace) where

@@ -17,6 +17,8 @@ use Rattle.zq_message.specs.declared.message.Message.TheVariants as message
 use Rattle.zq_message.specs.declared.message.WireExpr.{WireExpr}
 use Rattle.zq_interests.specs.Interests.{Asked, interests_of}
 use Rattle.zq_interests.specs.declared.types.InterestEntry.{InterestEntry}
+use Rattle.zq_strategy.specs.declared.types.FinalMark.{FinalMark}
+use Rattle.zq_strategy.specs.declared.types.FinalMark.TheVariants as mark
 use Rattle.zq_machine.specs.declared.call.Call.{Call}
 use Rattle.zq_machine.specs.declared.call.Call.TheVariants as call
 use Rattle.zq_machine.specs.declared.call.Outcome.{Outcome}
@@ -29,7 +31,7 @@ use Rattle.zq_machine.specs.Machine.{after, state_after, step, steps_from}
 use Rattle.zq_machine.specs.Selecting.{full_text}
 use Rattle.zq_machine.specs.State.{State, opening_state}
 use Rattle.zq_machine.specs.Standing.{Standing, asked_at, asking_after, asking_by, asking_in, standing_after, standing_at, standing_in}
-use Rattle.zq_trace.specs.Faces.{Face, Trace, called, face_at, faces, handed_to, heard, new_face, says, told, with_theirs}
+use Rattle.zq_trace.specs.Faces.{Face, Trace, called, face_at, faces, handed_to, heard, new_face, says, told, with_mark, with_theirs}
 use Rattle.zq_trace.specs.Refusals.{next_face}
 use Rattle.zq_trace.proofs.Hats.{mapped, put_mapped}
 use Rattle.zq_trace.proofs.Runs.{IsRun, calls_of, reached, run_promise, state_of, steps_is}
@@ -130,6 +132,11 @@ module _ (config : Settings) (q : ℕ) where
   Fresh (call.Open x) (outcome.Opened n) a = (n.0 == q) ≡ true → a ≡ []
   Fresh c answer a = Unit {0}
 
+  mark_same : (m : FinalMark) (set : Bool) (y : Face) → (with_mark m set y).interests ≡ y.interests
+  mark_same mark.Initial set y = refl
+  mark_same (mark.Key key) true y = refl
+  mark_same (mark.Key key) false y = refl
+
   called_asks : (c : Call) (answer : Outcome) (st : Option Standing) (f : Option Face) (a : Asked) → Alike config st f → Fresh c answer a → Asks f a → Asks (called q c answer f) (asking_by q c st a)
   called_asks (call.Open x) (outcome.Opened n) st f a alike fresh is = opened_same (n.0 == q) (new_face x) f a refl fresh is
   called_asks (call.Open x) (outcome.Asked n) st f a alike fresh is = is
@@ -141,6 +148,7 @@ module _ (config : Settings) (q : ℕ) where
   called_asks (call.UndeclareKeyExpr n id) answer st f a alike fresh is = changed_same (n.0 == q) (λ y. with_theirs y (remove_entry (is_at (nat_cmp id)) y.numbers.theirs)) (λ y. refl) f a is
   called_asks (call.DeclareQueryable n id w info node) answer st f a alike fresh is = changed_same (n.0 == q) (λ y. record y { queryables = insert_entry nat_cmp y.queryables id (record { key = full_text (says w y); info = info }) }) (λ y. refl) f a is
   called_asks (call.UndeclareQueryable n id w node) answer st f a alike fresh is = changed_same (n.0 == q) (λ y. record y { queryables = remove_entry (is_at (nat_cmp id)) y.queryables }) (λ y. refl) f a is
+  called_asks (call.FinalizeInterest n m set) answer st f a alike fresh is = changed_same (n.0 == q) (with_mark m set) (mark_same m set) f a is
   called_asks (call.SetNodeIds n ids) answer st f a alike fresh is = changed_same (n.0 == q) (λ y. record y { nodes = ids }) (λ y. refl) f a is
   called_asks (call.Interest n id keys aggregate w) answer st f a alike fresh is = interest_same id keys aggregate w st f a alike is (n.0 == q)
   called_asks (call.InterestFinal n id) answer st f a alike fresh is = end_same id f a is (n.0 == q)

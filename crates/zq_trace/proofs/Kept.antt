@@ -19,8 +19,8 @@ use Rattle.zq_machine.specs.TextCalls.{asked_said, read}
 use Rattle.zq_machine.specs.Selecting.{select as machine_select}
 use Rattle.zq_trace.specs.Expected.{finals_of, shown}
 use Rattle.zq_trace.specs.Faces.{Trace, faces, opened_by}
-use Rattle.zq_trace.specs.Selected.{Others, select}
-use Rattle.zq_trace.specs.Refusals.{next_face, refusal_of}
+use Rattle.zq_trace.specs.Selected.{select}
+use Rattle.zq_trace.specs.Refusals.{Lacks, next_face, refusal_of}
 use Rattle.zq_trace.specs.Headline.{Headline, CallHeadline, HeadlineFrom, answer, granted, if_accepted, of_kind}
 use Rattle.zq_trace.specs.Machine.{PicksAlike, RefusesAlike}
 use Rattle.zq_trace.proofs.Asked.{counted_now}
@@ -65,8 +65,8 @@ module _ (config : Settings) (past : Trace) (run : IsRun config past) where
   accepted_answer (call.Response face r) h = (p config past run face r h).outcome ∙ ap outcome.Replied (response_number config past run face r h)
   accepted_answer c h = (call_promise config past c).answer h
 
-  module _ (o : Others) (refuses : (c : Call) → refusal_of o config past c ≡ machine_refusal s.core (read s c)) where
-    answered : (c : Call) → (step s c).outcome ≡ answer o config past c
+  module _ (lacks : Lacks) (refuses : (c : Call) → refusal_of lacks config past c ≡ machine_refusal s.core (read s c)) where
+    answered : (c : Call) → (step s c).outcome ≡ answer lacks config past c
     answered c = by (machine_refusal s.core (read s c)) refl (call_promise config past c).refusals ∙ sym (ap (λ x. option_map_or (λ r. outcome.Refused r) x (granted config past c)) (refuses c))
       where
         by : (x : Option Refusal) → machine_refusal s.core (read s c) ≡ x → RefusesBy x s c → (step s c).outcome ≡ option_map_or (λ r. outcome.Refused r) (machine_refusal s.core (read s c)) (granted config past c)
@@ -80,10 +80,10 @@ module _ (config : Settings) (past : Trace) (run : IsRun config past) where
         by true h = finals_shown config past run c
         by false h = ap (λ l. map (shown past) (of_kind 2 l)) (nothing_handed s c (call_promise config past c) h)
 
-    pub call_keeps : ((face : FaceId) (r : Request) → select o config past face r ≡ machine_select s.core face (asked_said face r s) r) → (c : Call) → CallHeadline o config past c (step s c)
+    pub call_keeps : ((face : FaceId) (r : Request) → select config past face r ≡ machine_select s.core face (asked_said face r s) r) → (c : Call) → CallHeadline lacks config past c (step s c)
     call_keeps picks c = record {
       answered = answered c;
-      requests = requests_shown config past run o picks c;
+      requests = requests_shown config past run picks c;
       replies = replies_shown config past run c;
       finals = finals_kept c;
       ordered = ordered config past run c;
@@ -91,12 +91,12 @@ module _ (config : Settings) (past : Trace) (run : IsRun config past) where
       silent = nothing_handed s c (call_promise config past c);
     }
 
-kept_from : (config : Settings) (o : Others) → PicksAlike o config → RefusesAlike o config → (cs : List Call) (past : Trace) → IsRun config past → HeadlineFrom o config past cs (steps_from (reached config past) cs)
-kept_from config o picks refuses [] past run = tt
-kept_from config o picks refuses (c ∷ cs) past run = (
-  call_keeps config past run o (refuses past run) (picks past run) c,
-  kept_from config o picks refuses cs ((c, step (reached config past) c) ∷ past) (refl, run),
+kept_from : (config : Settings) (lacks : Lacks) → PicksAlike config → RefusesAlike lacks config → (cs : List Call) (past : Trace) → IsRun config past → HeadlineFrom lacks config past cs (steps_from (reached config past) cs)
+kept_from config lacks picks refuses [] past run = tt
+kept_from config lacks picks refuses (c ∷ cs) past run = (
+  call_keeps config past run lacks (refuses past run) (picks past run) c,
+  kept_from config lacks picks refuses cs ((c, step (reached config past) c) ∷ past) (refl, run),
 )
 
-pub headline : (o : Others) (config : Settings) → PicksAlike o config → RefusesAlike o config → (calls : List Call) → Headline o config calls (steps config calls)
-headline o config picks refuses calls = kept_from config o picks refuses calls [] tt
+pub headline : (lacks : Lacks) (config : Settings) → PicksAlike config → RefusesAlike lacks config → (calls : List Call) → Headline lacks config calls (steps config calls)
+headline lacks config picks refuses calls = kept_from config lacks picks refuses calls [] tt

@@ -17,9 +17,11 @@ pub mod Apart
 pub mod Kept
 pub mod Once
 pub mod Refuses
+pub mod Regions
 pub mod Offered
 pub mod FaceLists
 pub mod Hats
+pub mod Routers
 pub mod Picks
 pub mod Places
 pub mod Interests

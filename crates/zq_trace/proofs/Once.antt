@@ -1,6 +1,6 @@
 -- Of each request one final comes at most, and nothing of it behind that, whatever calls and steps keep the headline.
 use Rattle.std.proofs.Common.{◌≡◌, ◌∙◌, refl, sym, ap, subst, ℕ, suc, ◌+◌, ◌<◌, ◌≤◌, Bool, true, false, cond, not, List, [], ◌∷◌, ◌++◌, fold, map, length, Option, Some, None, arith, true≢false, eqb-true, eq-eqb, length-append, ◌⊎◌, inl, inr}
-use Rattle.std.specs.Prelude.{◌==◌, ◌&&◌, ◌||◌, find, if◌then◌else◌, unwrap_or}
+use Rattle.std.specs.Prelude.{◌==◌, ◌&&◌, ◌||◌, find, unwrap_or}
 use Rattle.std.specs.List.{AllByRecursion, Contains, cons_option, filter, filter_map, list_any}
 use Rattle.std.specs.BTreeSet.{insert_key}
 use Rattle.std.specs.Option.{is_some, option_and_then, option_map, option_map_or}
@@ -21,7 +21,6 @@ use Rattle.zq_query.specs.Records.{is_entry}
 use Rattle.zq_query.specs.Tables.{Due, due_cmp}
 use Rattle.zq_machine.specs.declared.call.Call.{Call}
 use Rattle.zq_machine.specs.declared.call.Call.TheVariants as call
-use Rattle.zq_machine.specs.declared.call.Outcome.{Outcome}
 use Rattle.zq_machine.specs.declared.call.Outcome.TheVariants as outcome
 use Rattle.zq_machine.specs.declared.call.Refusal.{Refusal}
 use Rattle.zq_machine.specs.declared.call.Step.{Step}
@@ -29,16 +28,16 @@ use Rattle.zq_machine.specs.Configs.{Settings}
 use Rattle.zq_machine.specs.Deciding.{is_accepted}
 use Rattle.zq_machine.specs.Handing.{Handed}
 use Rattle.zq_machine.specs.Selecting.{full_text}
-use Rattle.zq_tables.specs.Naming.{FaceNaming, no_names, plain}
+use Rattle.zq_tables.specs.Naming.{FaceNaming, plain}
 use Rattle.zq_machine.specs.Headline.{ends, finals_of as finals_in, finals_over, is_final}
 use Rattle.zq_machine.specs.Waiting.{ends_entry, is_of, lands}
 use Rattle.zq_machine.proofs.Lists.{all_append, all_failing, all_filter, all_parts, all_passing, all_weaker, count, count_append, count_filter, count_none, none_passing}
 use Rattle.zq_trace.specs.Faces.{Trace, is_closed}
 use Rattle.zq_trace.specs.Awaited.{Owed, asked_by, deadline, flight, in_flight, next_reply, owed, owed_by, owner, pending, request, requests, waits}
-use Rattle.zq_trace.specs.Selected.{Others, asked_key, select}
-use Rattle.zq_trace.specs.Expected.{Shown, error_replies, final_to, finals_of, if_open, late, late_reply, next_request, open_to, replies_of, reply_says, reply_to, request_to, read_message, requests_of, shown, timed_out}
-use Rattle.zq_trace.specs.Refusals.{refusal_of}
-use Rattle.zq_trace.specs.Headline.{CallHeadline, Headline, HeadlineFrom, answer, granted, if_accepted, is_numbered, kind, of_kind}
+use Rattle.zq_trace.specs.Selected.{asked_key, select}
+use Rattle.zq_trace.specs.Expected.{Shown, error_replies, final_to, finals_of, if_open, late, late_reply, next_request, open_to, replies_of, reply_says, reply_to, request_to, read_message, requests_of, shown}
+use Rattle.zq_trace.specs.Refusals.{Lacks, refusal_of}
+use Rattle.zq_trace.specs.Headline.{CallHeadline, Headline, HeadlineFrom, answer, if_accepted, is_numbered, kind, of_kind}
 use Rattle.zq_trace.specs.Laws.{AreSilent, BackFrom, GoesBack, IsBack}
 use Rattle.zq_trace.proofs.Open.{all_at, found}
 
@@ -92,7 +91,7 @@ module _ (T : Shown → Type 0) (R : Final → Type 0) (replied : (f : Final) �
   unshown past [] all = tt
   unshown past (h ∷ hs) all = (all.0, unshown past hs all.1)
 
-  module _ (o : Others) (config : Settings) (past : Trace) (asked : AllByRecursion (λ (f : Final). waits config past f.number ≡ true → R f) (requests past)) where
+  module _ (lacks : Lacks) (config : Settings) (past : Trace) (asked : AllByRecursion (λ (f : Final). waits config past f.number ≡ true → R f) (requests past)) where
     -- a request that has an entry waits
     entry_waits : AllByRecursion (λ (e : Owed). waits config past e.0 ≡ true) (pending config past)
     entry_waits =
@@ -144,18 +143,18 @@ module _ (T : Shown → Type 0) (R : Final → Type 0) (replied : (f : Final) �
 
     -- ---- each kind
     -- an accepted request is answered its number
-    answered_next : (face : FaceId) (r : Request) (now : ℕ) (t : Step) → t.outcome ≡ answer o config past (call.Request face r now) → is_accepted t.outcome ≡ true → t.outcome ≡ outcome.Asked (next_request config past)
-    answered_next face r now t is h = by (refusal_of o config past (call.Request face r now)) is
+    answered_next : (face : FaceId) (r : Request) (now : ℕ) (t : Step) → t.outcome ≡ answer lacks config past (call.Request face r now) → is_accepted t.outcome ≡ true → t.outcome ≡ outcome.Asked (next_request config past)
+    answered_next face r now t is h = by (refusal_of lacks config past (call.Request face r now)) is
       where
         by : (x : Option Refusal) → t.outcome ≡ option_map_or (λ y. outcome.Refused y) x (outcome.Asked (next_request config past)) → t.outcome ≡ outcome.Asked (next_request config past)
         by (Some y) e = absurd (true≢false (sym h ∙ ap is_accepted e))
         by None e = e
 
     module _ (t : Step) (asks : (f : Final) → R f → f.number ≡ next_request config past → (r : Request) (q : List ℕ) (x : QueryTargetQabl) → T (request_to config past r q x)) where
-      requests_have : (c : Call) → CallHeadline o config past c t → AllByRecursion R (asked_by c t.outcome) → is_accepted t.outcome ≡ true → Showns (requests_of o config past c)
+      requests_have : (c : Call) → CallHeadline lacks config past c t → AllByRecursion R (asked_by c t.outcome) → is_accepted t.outcome ≡ true → Showns (requests_of config past c)
       requests_have (call.Request face r now) k new h =
           let it = subst (λ a. AllByRecursion R (asked_by (call.Request face r now) a)) (answered_next face r now t k.answered h) new in
-          all_picked it.0 (select o config past face r)
+          all_picked it.0 (select config past face r)
         where
           this : Final
           this = record { number = next_request config past; asker = face; id = r.id; qos = r.qos }
@@ -185,9 +184,9 @@ module _ (T : Shown → Type 0) (R : Final → Type 0) (replied : (f : Final) �
           shown_all [] all = tt
           shown_all (f ∷ fs) all = (finished f all.0, shown_all fs all.1)
 
-      pub all_handed : (c : Call) → CallHeadline o config past c t → AllByRecursion R (asked_by c t.outcome) → AllByRecursion (λ (h : Handed). T (shown past h)) (of_kind 3 t.handed) → AllByRecursion (λ (h : Handed). T (shown past h)) t.handed
+      pub all_handed : (c : Call) → CallHeadline lacks config past c t → AllByRecursion R (asked_by c t.outcome) → AllByRecursion (λ (h : Handed). T (shown past h)) (of_kind 3 t.handed) → AllByRecursion (λ (h : Handed). T (shown past h)) t.handed
       all_handed c k new rest =
-          let zero' = unshown past (of_kind 0 t.handed) (subst Showns (sym k.requests) (if_accepted_all (requests_of o config past c) (requests_have c k new))) in
+          let zero' = unshown past (of_kind 0 t.handed) (subst Showns (sym k.requests) (if_accepted_all (requests_of config past c) (requests_have c k new))) in
           let one' = unshown past (of_kind 1 t.handed) (subst Showns (sym k.replies) (if_accepted_all (replies_of config past c) (λ h. replies_have c))) in
           let two' = unshown past (of_kind 2 t.handed) (subst Showns (sym k.finals) (if_accepted_all (finals_of config past c t) (λ h. finals_have c new))) in
           subst (AllByRecursion P) k.ordered
@@ -214,10 +213,10 @@ module _ (Q : Option ℕ → Type 0) (bare : Q None) where
   unnumbered [] all = tt
   unnumbered (h ∷ hs) all = (bare_at h.number h.reply all.0, unnumbered hs all.1)
 
-  all_numbers : (o : Others) (config : Settings) (past : Trace) → AllByRecursion (λ (f : Final). waits config past f.number ≡ true → Q (Some f.number)) (requests past)
-      → (t : Step) (c : Call) → CallHeadline o config past c t → AllByRecursion (λ (f : Final). Q (Some f.number)) (asked_by c t.outcome) → AllByRecursion (λ (h : Handed). Q h.number) t.handed
-  all_numbers o config past asked t c k new =
-      all_handed (λ (s : Shown). Q s.number) (λ (f : Final). Q (Some f.number)) (λ f it reply r. it) (λ f it. it) o config past asked t
+  all_numbers : (lacks : Lacks) (config : Settings) (past : Trace) → AllByRecursion (λ (f : Final). waits config past f.number ≡ true → Q (Some f.number)) (requests past)
+      → (t : Step) (c : Call) → CallHeadline lacks config past c t → AllByRecursion (λ (f : Final). Q (Some f.number)) (asked_by c t.outcome) → AllByRecursion (λ (h : Handed). Q h.number) t.handed
+  all_numbers lacks config past asked t c k new =
+      all_handed (λ (s : Shown). Q s.number) (λ (f : Final). Q (Some f.number)) (λ f it reply r. it) (λ f it. it) lacks config past asked t
       (λ f it is r q x. subst (λ m. Q (Some m)) is it) c k new (unnumbered (of_kind 3 t.handed) (all_failing is_numbered (of_kind 3 t.handed) k.apart))
 
 -- ---- what is over stays so
@@ -260,16 +259,16 @@ none_numbered config = record { below = tt; once = λ n. omega arith }
 abbrev AsksNext : ℕ → List Final → Type 0
 AsksNext n fs = (fs ≡ []) ⊎ ((f : Final) × (fs ≡ f ∷ []) × (f.number ≡ n))
 
-module _ (o : Others) (config : Settings) (past : Trace) where
-  asks_next : (c : Call) (t : Step) → t.outcome ≡ answer o config past c → AsksNext (next_request config past) (asked_by c t.outcome)
-  asks_next (call.Request face r now) t is = by (refusal_of o config past (call.Request face r now)) is
+module _ (lacks : Lacks) (config : Settings) (past : Trace) where
+  asks_next : (c : Call) (t : Step) → t.outcome ≡ answer lacks config past c → AsksNext (next_request config past) (asked_by c t.outcome)
+  asks_next (call.Request face r now) t is = by (refusal_of lacks config past (call.Request face r now)) is
     where
       by : (x : Option Refusal) → t.outcome ≡ option_map_or (λ y. outcome.Refused y) x (outcome.Asked (next_request config past)) → AsksNext (next_request config past) (asked_by (call.Request face r now) t.outcome)
       by (Some y) e = inl (ap (asked_by (call.Request face r now)) e)
       by None e = inr (record { number = next_request config past; asker = face; id = r.id; qos = r.qos }, ap (asked_by (call.Request face r now)) e, refl)
   asks_next c t is = inl refl
 
-  module _ (c : Call) (t : Step) (k : CallHeadline o config past c t) where
+  module _ (c : Call) (t : Step) (k : CallHeadline lacks config past c t) where
     abbrev later : Trace
     later = (c, t) ∷ past
 
@@ -318,7 +317,7 @@ module _ (o : Others) (config : Settings) (past : Trace) where
 
         -- the call hands nothing of it
         silent : AllByRecursion (λ (h : Handed). is_of n h ≡ false) t.handed
-        silent = all_numbers (λ x. option_map_or (λ m. m == n) x false ≡ false) refl o config past
+        silent = all_numbers (λ x. option_map_or (λ m. m == n) x false ≡ false) refl lacks config past
             (everywhere (λ (f : Final). waits config past f.number ≡ true → has f ≡ false) apart_from (requests past)) t c k
             (all_weaker (λ (f : Final). f.number ≡ next_request config past) (λ (f : Final). has f ≡ false) next_apart new new_are)
 
@@ -492,44 +491,44 @@ module _ (o : Others) (config : Settings) (past : Trace) where
 silent_finals : (n : ℕ) (hs : List Handed) → AllByRecursion (λ (h : Handed). is_of n h ≡ false) hs → count (ends n) hs ≡ 0
 silent_finals n hs all = count_none (ends n) hs (none_passing (ends n) hs (all_weaker (λ (h : Handed). is_of n h ≡ false) (λ (h : Handed). ends n h ≡ false) (λ h it. and_false (is_final h.message) (is_of n h) it) hs all))
 
-module _ (o : Others) (config : Settings) (n : ℕ) where
-  quiet_rest : (cs : List Call) (ts : List Step) (past : Trace) → HeadlineFrom o config past cs ts → IsOver config past n → AreSilent n ts × (finals_over n ts ≡ 0)
+module _ (lacks : Lacks) (config : Settings) (n : ℕ) where
+  quiet_rest : (cs : List Call) (ts : List Step) (past : Trace) → HeadlineFrom lacks config past cs ts → IsOver config past n → AreSilent n ts × (finals_over n ts ≡ 0)
   quiet_rest [] [] past keeps over = (tt, refl)
   quiet_rest [] (t ∷ ts) past keeps over = absurd keeps
   quiet_rest (c ∷ cs) [] past keeps over = absurd keeps
   quiet_rest (c ∷ cs) (t ∷ ts) past keeps over =
-      let none = silent o config past c t keeps.0 n over in
-      let rest = quiet_rest cs ts ((c, t) ∷ past) keeps.1 (stays_over o config past c t keeps.0 n over) in
+      let none = silent lacks config past c t keeps.0 n over in
+      let rest = quiet_rest cs ts ((c, t) ∷ past) keeps.1 (stays_over lacks config past c t keeps.0 n over) in
       ((none_passing (is_of n) t.handed none, rest.0), λ j. silent_finals n t.handed none j + rest.1 j)
 
-  one_from : (cs : List Call) (ts : List Step) (past : Trace) → HeadlineFrom o config past cs ts → AreNumbered config past → finals_over n ts ≤ 1
+  one_from : (cs : List Call) (ts : List Step) (past : Trace) → HeadlineFrom lacks config past cs ts → AreNumbered config past → finals_over n ts ≤ 1
   one_from [] [] past keeps numbered = omega arith
   one_from [] (t ∷ ts) past keeps numbered = absurd keeps
   one_from (c ∷ cs) [] past keeps numbered = absurd keeps
-  one_from (c ∷ cs) (t ∷ ts) past keeps numbered = by (ended o config past c t keeps.0 numbered n) (one_from cs ts ((c, t) ∷ past) keeps.1 (numbered_on o config past c t keeps.0 numbered))
+  one_from (c ∷ cs) (t ∷ ts) past keeps numbered = by (ended lacks config past c t keeps.0 numbered n) (one_from cs ts ((c, t) ∷ past) keeps.1 (numbered_on lacks config past c t keeps.0 numbered))
     where
       by : (finals_in n t ≡ 0) ⊎ IsOver config ((c, t) ∷ past) n → finals_over n ts ≤ 1 → finals_in n t + finals_over n ts ≤ 1
       by (inl none) most = omega (arith, none, most)
       by (inr over) most =
-          let one = at_most o config past c t keeps.0 n numbered in
+          let one = at_most lacks config past c t keeps.0 n numbered in
           let none = (quiet_rest cs ts ((c, t) ∷ past) keeps.1 over).1 in
           omega (arith, one, none)
 
-  nothing_from : (cs : List Call) (before rest : List Step) (t : Step) (past : Trace) → HeadlineFrom o config past cs (before ++ t ∷ rest) → AreNumbered config past → 0 < finals_in n t → AreSilent n rest
+  nothing_from : (cs : List Call) (before rest : List Step) (t : Step) (past : Trace) → HeadlineFrom lacks config past cs (before ++ t ∷ rest) → AreNumbered config past → 0 < finals_in n t → AreSilent n rest
   nothing_from [] [] rest t past keeps numbered some = absurd keeps
   nothing_from [] (u ∷ before) rest t past keeps numbered some = absurd keeps
-  nothing_from (c ∷ cs) [] rest t past keeps numbered some = by (ended o config past c t keeps.0 numbered n)
+  nothing_from (c ∷ cs) [] rest t past keeps numbered some = by (ended lacks config past c t keeps.0 numbered n)
     where
       by : (finals_in n t ≡ 0) ⊎ IsOver config ((c, t) ∷ past) n → AreSilent n rest
       by (inl none) = absurd (omega (arith, none, some))
       by (inr over) = (quiet_rest cs rest ((c, t) ∷ past) keeps.1 over).0
-  nothing_from (c ∷ cs) (u ∷ before) rest t past keeps numbered some = nothing_from cs before rest t ((c, u) ∷ past) keeps.1 (numbered_on o config past c u keeps.0 numbered) some
+  nothing_from (c ∷ cs) (u ∷ before) rest t past keeps numbered some = nothing_from cs before rest t ((c, u) ∷ past) keeps.1 (numbered_on lacks config past c u keeps.0 numbered) some
 
-pub one_final : (o : Others) (config : Settings) (calls : List Call) (steps : List Step) → Headline o config calls steps → (n : ℕ) → finals_over n steps ≤ 1
-one_final o config calls steps keeps n = one_from o config n calls steps [] keeps (none_numbered config)
+pub one_final : (lacks : Lacks) (config : Settings) (calls : List Call) (steps : List Step) → Headline lacks config calls steps → (n : ℕ) → finals_over n steps ≤ 1
+one_final lacks config calls steps keeps n = one_from lacks config n calls steps [] keeps (none_numbered config)
 
-pub nothing_after : (o : Others) (config : Settings) (calls : List Call) (before rest : List Step) (t : Step) → Headline o config calls (before ++ t ∷ rest) → (n : ℕ) → 0 < finals_in n t → AreSilent n rest
-nothing_after o config calls before rest t keeps n some = nothing_from o config n calls before rest t [] keeps (none_numbered config) some
+pub nothing_after : (lacks : Lacks) (config : Settings) (calls : List Call) (before rest : List Step) (t : Step) → Headline lacks config calls (before ++ t ∷ rest) → (n : ℕ) → 0 < finals_in n t → AreSilent n rest
+nothing_after lacks config calls before rest t keeps n some = nothing_from lacks config n calls before rest t [] keeps (none_numbered config) some
 
 -- ---- replies and finals go back
 all_in : {X : Type 0} (xs : List X) → AllByRecursion (Contains xs) xs
@@ -539,7 +538,7 @@ all_in {X} (x ∷ xs) = (
   all_weaker (Contains xs) (Contains (x ∷ xs)) (λ y it. Contains-append_right (x ∷ []) xs y it) xs (all_in xs),
 )
 
-module _ (o : Others) (config : Settings) (past : Trace) (c : Call) (t : Step) (k : CallHeadline o config past c t) where
+module _ (lacks : Lacks) (config : Settings) (past : Trace) (c : Call) (t : Step) (k : CallHeadline lacks config past c t) where
   abbrev asked : List Final
   asked = requests ((c, t) ∷ past)
 
@@ -590,14 +589,14 @@ module _ (o : Others) (config : Settings) (past : Trace) (c : Call) (t : Step) (
   goes_back =
       let parts = all_parts (Contains asked) (requests past) (asked_by c t.outcome) (all_in asked) in
       unread t.handed
-      (all_handed Back (Contains asked) (λ f it reply r. it) (λ f it. it) o config past
+      (all_handed Back (Contains asked) (λ f it reply r. it) (λ f it. it) lacks config past
       (all_weaker (Contains asked) (λ (f : Final). waits config past f.number ≡ true → Contains asked f) (λ f it waiting. it) (requests past) parts.0)
       t asking_back c k parts.1 (declared_back t.handed (all_failing is_numbered (of_kind 3 t.handed) k.apart)))
 
-back_from : (o : Others) (config : Settings) (cs : List Call) (ts : List Step) (past : Trace) → HeadlineFrom o config past cs ts → BackFrom past cs ts
-back_from o config [] ts past keeps = tt
-back_from o config (c ∷ cs) [] past keeps = tt
-back_from o config (c ∷ cs) (t ∷ ts) past keeps = (goes_back o config past c t keeps.0, back_from o config cs ts ((c, t) ∷ past) keeps.1)
+back_from : (lacks : Lacks) (config : Settings) (cs : List Call) (ts : List Step) (past : Trace) → HeadlineFrom lacks config past cs ts → BackFrom past cs ts
+back_from lacks config [] ts past keeps = tt
+back_from lacks config (c ∷ cs) [] past keeps = tt
+back_from lacks config (c ∷ cs) (t ∷ ts) past keeps = (goes_back lacks config past c t keeps.0, back_from lacks config cs ts ((c, t) ∷ past) keeps.1)
 
-pub to_askers : (o : Others) (config : Settings) (calls : List Call) (steps : List Step) → Headline o config calls steps → BackFrom [] calls steps
-to_askers o config calls steps keeps = back_from o config calls steps [] keeps
+pub to_askers : (lacks : Lacks) (config : Settings) (calls : List Call) (steps : List Step) → Headline lacks config calls steps → BackFrom [] calls steps
+to_askers lacks config calls steps keeps = back_from lacks config calls steps [] keeps

@@ -21,11 +21,12 @@ use Rattle.zq_machine.specs.State.{State, has_hat, is_region, kind_of}
 use Rattle.zq_machine.specs.TextCalls.{read}
 use Rattle.zq_trace.specs.Faces.{Trace}
 use Rattle.zq_trace.specs.Machine.{AreSmall}
-use Rattle.zq_trace.specs.Refusals.{refusal_of}
-use Rattle.zq_trace.specs.Selected.{Others, regions}
+use Rattle.zq_trace.specs.Refusals.{Lacks, refusal_of}
+use Rattle.zq_trace.specs.Selected.{regions}
 use Rattle.zq_trace.proofs.Finals.{at_number}
-use Rattle.zq_trace.proofs.Hats.{StandsSo, all_stand, one_region, region_in, regions_are}
+use Rattle.zq_trace.proofs.Hats.{StandsSo, all_stand, region_in, regions_are}
 use Rattle.zq_trace.proofs.Picks.{looked}
+use Rattle.zq_trace.proofs.Regions.{one_region}
 use Rattle.zq_trace.proofs.Runs.{reached}
 
 module _ (config : Settings) (past : Trace) (small : AreSmall config) (r : Region) where
@@ -65,8 +66,8 @@ module _ (config : Settings) (past : Trace) (small : AreSmall config) (r : Regio
           none true h = absurd (true≢false (sym (has_place h) ∙ e))
           none false h = h
 
-  pub region_refuses : (o : Others) (g : Gateways) → refusal_of o config past (call.SetGateways r g) ≡ machine_refusal s.core (read s (call.SetGateways r g))
-  region_refuses o g = ap (λ b. cond (not b) (Some refusal.UnknownRegion) None) region_same
+  pub region_refuses : (lacks : Lacks) (g : Gateways) → refusal_of lacks config past (call.SetGateways r g) ≡ machine_refusal s.core (read s (call.SetGateways r g))
+  region_refuses lacks g = ap (λ b. cond (not b) (Some refusal.UnknownRegion) None) region_same
 
-  pub network_refuses : (o : Others) (n : Network) → refusal_of o config past (call.SetNetwork r n) ≡ machine_refusal s.core (read s (call.SetNetwork r n))
-  network_refuses o n = ap (λ b. cond (not b) (Some refusal.UnknownRegion) None) region_same
+  pub network_refuses : (lacks : Lacks) (n : Network) → refusal_of lacks config past (call.SetNetwork r n) ≡ machine_refusal s.core (read s (call.SetNetwork r n))
+  network_refuses lacks n = ap (λ b. cond (not b) (Some refusal.UnknownRegion) None) region_same

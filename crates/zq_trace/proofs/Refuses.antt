@@ -29,9 +29,9 @@ use Rattle.zq_machine.specs.State.{State, at}
 use Rattle.zq_machine.specs.TextCalls.{asked_said, read, said, said_by_reply}
 use Rattle.zq_trace.specs.Faces.{Face, Trace, face_at, is_closed, says}
 use Rattle.zq_trace.specs.Awaited.{free_id, in_flight, next_reply, owner}
-use Rattle.zq_trace.specs.Selected.{Others, select}
+use Rattle.zq_trace.specs.Selected.{select}
 use Rattle.zq_trace.specs.Expected.{if_open, reply_says}
-use Rattle.zq_trace.specs.Refusals.{causes, of_face, refusal_of, said_at, unknown}
+use Rattle.zq_trace.specs.Refusals.{Lacks, causes, of_face, refusal_of, said_at, unknown}
 use Rattle.zq_trace.proofs.Asked.{closed_alike, counted_now}
 use Rattle.zq_machine.proofs.Counting.{call_replies}
 use Rattle.zq_trace.proofs.Ids.{ids_alike, taken_alike}
@@ -62,7 +62,7 @@ abbrev pub behind : List Cause → List Cause
 behind [] = []
 behind (x ∷ cs) = cs
 
-module _ (config : Settings) (past : Trace) (run : IsRun config past) (o : Others) where
+module _ (config : Settings) (past : Trace) (run : IsRun config past) (lacks : Lacks) where
   abbrev s : State
   s = reached config past
 
@@ -150,43 +150,43 @@ module _ (config : Settings) (past : Trace) (run : IsRun config past) (o : Other
   full_same [] = refl
   full_same (x ∷ os) = λ j. (none_not (free_id config past x.face.0) ∙ ap (λ y. not (is_some y)) (sym (ids_alike config past run x.face.0))) j || full_same os j
 
-  pub close_refuses : (face : FaceId) → refusal_of o config past (call.Close face) ≡ machine_refusal s.core (read s (call.Close face))
+  pub close_refuses : (face : FaceId) → refusal_of lacks config past (call.Close face) ≡ machine_refusal s.core (read s (call.Close face))
   close_refuses face = by_face face [] [] (λ p seen. refl)
 
-  pub final_refuses : (face : FaceId) (rid : ℕ) → refusal_of o config past (call.ResponseFinal face rid) ≡ machine_refusal s.core (read s (call.ResponseFinal face rid))
-  final_refuses face rid = by_face face (behind (causes o config past (call.ResponseFinal face rid))) (behind (machine_causes s.core (read s (call.ResponseFinal face rid)))) (λ p seen. ap (λ b. cond (not b) (Some refusal.QueryNotFound) None) (sym (taken_alike config past run face.0 rid)))
+  pub final_refuses : (face : FaceId) (rid : ℕ) → refusal_of lacks config past (call.ResponseFinal face rid) ≡ machine_refusal s.core (read s (call.ResponseFinal face rid))
+  final_refuses face rid = by_face face (behind (causes lacks config past (call.ResponseFinal face rid))) (behind (machine_causes s.core (read s (call.ResponseFinal face rid)))) (λ p seen. ap (λ b. cond (not b) (Some refusal.QueryNotFound) None) (sym (taken_alike config past run face.0 rid)))
 
-  pub sent_refuses : (reply : ℕ) → refusal_of o config past (call.Sent reply) ≡ machine_refusal s.core (read s (call.Sent reply))
+  pub sent_refuses : (reply : ℕ) → refusal_of lacks config past (call.Sent reply) ≡ machine_refusal s.core (read s (call.Sent reply))
   sent_refuses reply = ap (λ b. cond (not b) (Some refusal.NotInFlight) None) (flying_same reply)
 
-  pub reply_refuses : (face : FaceId) (r : Response) → refusal_of o config past (call.Response face r) ≡ machine_refusal s.core (read s (call.Response face r))
+  pub reply_refuses : (face : FaceId) (r : Response) → refusal_of lacks config past (call.Response face r) ≡ machine_refusal s.core (read s (call.Response face r))
   reply_refuses face r =
-      by_face face (behind (causes o config past (call.Response face r))) (behind (machine_causes s.core (read s (call.Response face r))))
+      by_face face (behind (causes lacks config past (call.Response face r))) (behind (machine_causes s.core (read s (call.Response face r))))
       (λ p seen j.
       first_of
       ((is_unscoped (reply_same face p seen r j), refusal.UnknownScope) ∷ (not (sym (taken_alike config past run face.0 r.rid) j), refusal.QueryNotFound)
       ∷ (not (says_key_or_nothing (reply_same face p seen r j)), refusal.InvalidKeyExpr) ∷ (needs_same face r.rid j && (sym (replies_now config past run) j + 1 == 2 ^ 64), refusal.NoFreeId) ∷ []))
 
-  pub ask_refuses : (face : FaceId) (r : Request) (now : ℕ) → select o config past face r ≡ machine_select s.core face (asked_said face r s) r → refusal_of o config past (call.Request face r now) ≡ machine_refusal s.core (read s (call.Request face r now))
+  pub ask_refuses : (face : FaceId) (r : Request) (now : ℕ) → select config past face r ≡ machine_select s.core face (asked_said face r s) r → refusal_of lacks config past (call.Request face r now) ≡ machine_refusal s.core (read s (call.Request face r now))
   ask_refuses face r now picks =
-      by_face face (behind (causes o config past (call.Request face r now))) (behind (machine_causes s.core (read s (call.Request face r now))))
-      (λ p seen. ap (λ b. cond b (Some refusal.NoFreeId) None) ((λ j. (counted_now config past run j + 1 == 2 ^ 64) || full_same (select o config past face r) j) ∙ ap (λ os. (s.core.queries.requests + 1 == 2 ^ 64) || list_any (lacks_at s.core.queries) (map target_of os)) picks))
+      by_face face (behind (causes lacks config past (call.Request face r now))) (behind (machine_causes s.core (read s (call.Request face r now))))
+      (λ p seen. ap (λ b. cond b (Some refusal.NoFreeId) None) ((λ j. (counted_now config past run j + 1 == 2 ^ 64) || full_same (select config past face r) j) ∙ ap (λ os. (s.core.queries.requests + 1 == 2 ^ 64) || list_any (lacks_at s.core.queries) (map target_of os)) picks))
 
-  pub key_refuses : (face : FaceId) (id : ℕ) (w : WireExpr) → refusal_of o config past (call.DeclareKeyExpr face id w) ≡ machine_refusal s.core (read s (call.DeclareKeyExpr face id w))
+  pub key_refuses : (face : FaceId) (id : ℕ) (w : WireExpr) → refusal_of lacks config past (call.DeclareKeyExpr face id w) ≡ machine_refusal s.core (read s (call.DeclareKeyExpr face id w))
   key_refuses face id w =
-      by_face face (behind (causes o config past (call.DeclareKeyExpr face id w))) (behind (machine_causes s.core (read s (call.DeclareKeyExpr face id w))))
+      by_face face (behind (causes lacks config past (call.DeclareKeyExpr face id w))) (behind (machine_causes s.core (read s (call.DeclareKeyExpr face id w))))
       (λ p seen j. first_of ((is_unscoped (said_same face p seen w j), refusal.UnknownScope) ∷ (not (says_key (said_same face p seen w j)), refusal.InvalidKeyExpr) ∷ (remaps_same face p seen id w j, refusal.Remapped) ∷ []))
 
-  pub unkey_refuses : (face : FaceId) (id : ℕ) → refusal_of o config past (call.UndeclareKeyExpr face id) ≡ machine_refusal s.core (read s (call.UndeclareKeyExpr face id))
-  unkey_refuses face id = by_face face (behind (causes o config past (call.UndeclareKeyExpr face id))) (behind (machine_causes s.core (read s (call.UndeclareKeyExpr face id)))) (λ p seen. ap (λ b. cond b (Some refusal.UnknownId) None) (unnamed_same face p seen id))
+  pub unkey_refuses : (face : FaceId) (id : ℕ) → refusal_of lacks config past (call.UndeclareKeyExpr face id) ≡ machine_refusal s.core (read s (call.UndeclareKeyExpr face id))
+  unkey_refuses face id = by_face face (behind (causes lacks config past (call.UndeclareKeyExpr face id))) (behind (machine_causes s.core (read s (call.UndeclareKeyExpr face id)))) (λ p seen. ap (λ b. cond b (Some refusal.UnknownId) None) (unnamed_same face p seen id))
 
-  pub poll_refuses : (now : ℕ) → refusal_of o config past (call.Poll now) ≡ machine_refusal s.core (read s (call.Poll now))
+  pub poll_refuses : (now : ℕ) → refusal_of lacks config past (call.Poll now) ≡ machine_refusal s.core (read s (call.Poll now))
   poll_refuses now =
       ap (λ b. cond (not b) (Some refusal.NoFreeId) None)
       (λ j. nat_lt (sym (replies_now config past run) j + late_count config past run now j) (2 ^ 64))
 
-  pub mark_refuses : (face : FaceId) (m : FinalMark) (set : Bool) → refusal_of o config past (call.FinalizeInterest face m set) ≡ machine_refusal s.core (read s (call.FinalizeInterest face m set))
-  mark_refuses face m set = by_face face (behind (causes o config past (call.FinalizeInterest face m set))) (behind (machine_causes s.core (read s (call.FinalizeInterest face m set)))) (λ p seen. refl)
+  pub mark_refuses : (face : FaceId) (m : FinalMark) (set : Bool) → refusal_of lacks config past (call.FinalizeInterest face m set) ≡ machine_refusal s.core (read s (call.FinalizeInterest face m set))
+  mark_refuses face m set = by_face face (behind (causes lacks config past (call.FinalizeInterest face m set))) (behind (machine_causes s.core (read s (call.FinalizeInterest face m set)))) (λ p seen. refl)
 
-  pub nodes_refuses : (face : FaceId) (ids : NodeIds) → refusal_of o config past (call.SetNodeIds face ids) ≡ machine_refusal s.core (read s (call.SetNodeIds face ids))
+  pub nodes_refuses : (face : FaceId) (ids : NodeIds) → refusal_of lacks config past (call.SetNodeIds face ids) ≡ machine_refusal s.core (read s (call.SetNodeIds face ids))
   nodes_refuses face ids = by_face face [] [] (λ p seen. refl)

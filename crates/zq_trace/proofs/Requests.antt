@@ -30,7 +30,7 @@ use Rattle.zq_machine.specs.State.{State, at}
 use Rattle.zq_machine.specs.TextCalls.{allowed, asked_said, read, said}
 use Rattle.zq_trace.specs.Faces.{Face, Trace, face_at, says}
 use Rattle.zq_trace.specs.Awaited.{free_id}
-use Rattle.zq_trace.specs.Selected.{Others, allowed_key, asked_key, picked, select}
+use Rattle.zq_trace.specs.Selected.{allowed_key, asked_key, picked, select}
 use Rattle.zq_trace.specs.Expected.{Shown, in_full, next_request, read_message, request_to, requests_of, shown}
 use Rattle.zq_trace.specs.Headline.{if_accepted, kind, of_kind}
 use Rattle.zq_trace.proofs.Asked.{counted_now}
@@ -136,33 +136,33 @@ module _ (config : Settings) (past : Trace) (run : IsRun config past) where
   end_kind false face r = refl
 
   -- with another text only where there is nothing to hand
-  text_same : (o : Others) (face : FaceId) (r : Request) (os : List QueryTargetQabl) → select o config past face r ≡ os → map (request_to config past r (full_text (asked_said face r s))) os ≡ map (request_to config past r (unwrap_or (asked_key past face r) [])) os
-  text_same o face r [] e = refl
-  text_same o face r (x ∷ xs) e = by (face_at past face.0) (asked_key past face r) refl e
+  text_same : (face : FaceId) (r : Request) (os : List QueryTargetQabl) → select config past face r ≡ os → map (request_to config past r (full_text (asked_said face r s))) os ≡ map (request_to config past r (unwrap_or (asked_key past face r) [])) os
+  text_same face r [] e = refl
+  text_same face r (x ∷ xs) e = by (face_at past face.0) (asked_key past face r) refl e
     where
-      by : (f : Option Face) (k : Option (List ℕ)) → asked_key past face r ≡ k → option_map_or (λ (g : Face). option_map_or (λ q. picked o config past face r q g) k []) f [] ≡ x ∷ xs
+      by : (f : Option Face) (k : Option (List ℕ)) → asked_key past face r ≡ k → option_map_or (λ (g : Face). option_map_or (λ q. picked config past face r q g) k []) f [] ≡ x ∷ xs
           → map (request_to config past r (full_text (asked_said face r s))) (x ∷ xs) ≡ map (request_to config past r (unwrap_or (asked_key past face r) [])) (x ∷ xs)
       by None k is h = absurd (let gap : [] ≡ x ∷ xs = h in cc)
       by (Some f) None is h = absurd (let gap : [] ≡ x ∷ xs = h in cc)
       by (Some f) (Some q) is h = ap (λ t. map (request_to config past r t) (x ∷ xs)) (sym (key_text face r q is) ∙ sym (ap (λ k. unwrap_or k []) is))
 
-  module _ (o : Others) (picks : (face : FaceId) (r : Request) → select o config past face r ≡ machine_select s.core face (asked_said face r s) r) where
-    accepted_requests : (face : FaceId) (r : Request) (now : ℕ) → is_accepted (step s (call.Request face r now)).outcome ≡ true → map (shown past) (of_kind 0 (step s (call.Request face r now)).handed) ≡ requests_of o config past (call.Request face r now)
+  module _ (picks : (face : FaceId) (r : Request) → select config past face r ≡ machine_select s.core face (asked_said face r s) r) where
+    accepted_requests : (face : FaceId) (r : Request) (now : ℕ) → is_accepted (step s (call.Request face r now)).outcome ≡ true → map (shown past) (of_kind 0 (step s (call.Request face r now)).handed) ≡ requests_of config past (call.Request face r now)
     accepted_requests face r now h =
         let p = ((call_promise config past (call.Request face r now)).requests h).1 in
         ap (λ l. map (shown past) (of_kind 0 l)) p.all
         ∙ ap (map (shown past)) (filter-append (λ (x : Handed). kind x.message == 0) p.requests (if none_leaves p.requests then own_final s face r ∷ [] else []) ∙ ap (λ l. of_kind 0 p.requests ++ l) (end_kind (none_leaves p.requests) face r) ∙ append-nil (of_kind 0 p.requests))
         ∙ each_shown r (full_text (asked_said face r s)) (machine_select s.core face (asked_said face r s) r) p.requests p.each
         ∙ ap (map (request_to config past r (full_text (asked_said face r s)))) (sym (picks face r))
-        ∙ text_same o face r (select o config past face r) refl
+        ∙ text_same face r (select config past face r) refl
 
     none_handed : (c : Call) → list_any asks (step s c).handed ≡ false → map (shown past) (of_kind 0 (step s c).handed) ≡ if_accepted (step s c) []
     none_handed c none = ap (map (shown past)) (none_of_kind 0 (step s c).handed (sym (any_kind (step s c).handed) ∙ none)) ∙ sym (none_if (step s c))
 
-    pub requests_shown : (c : Call) → map (shown past) (of_kind 0 (step s c).handed) ≡ if_accepted (step s c) (requests_of o config past c)
+    pub requests_shown : (c : Call) → map (shown past) (of_kind 0 (step s c).handed) ≡ if_accepted (step s c) (requests_of config past c)
     requests_shown (call.Request face r now) = by (is_accepted (step s (call.Request face r now)).outcome) refl
       where
-        by : (b : Bool) → is_accepted (step s (call.Request face r now)).outcome ≡ b → map (shown past) (of_kind 0 (step s (call.Request face r now)).handed) ≡ cond b (requests_of o config past (call.Request face r now)) []
+        by : (b : Bool) → is_accepted (step s (call.Request face r now)).outcome ≡ b → map (shown past) (of_kind 0 (step s (call.Request face r now)).handed) ≡ cond b (requests_of config past (call.Request face r now)) []
         by true h = accepted_requests face r now h
         by false h = ap (λ l. map (shown past) (of_kind 0 l)) (nothing_handed s (call.Request face r now) (call_promise config past (call.Request face r now)) h)
     requests_shown c = none_handed c (call_promise config past c).requests

@@ -31,7 +31,9 @@ use Rattle.zq_machine.specs.Machine.{after, state_after, step, steps_from}
 use Rattle.zq_machine.specs.State.{State, opening_state}
 use Rattle.zq_machine.specs.Standing.{Standing, accepted_at, declaring_at, heard_all, heard_at, heard_body as standing_heard_body, heard_message as standing_heard, newly_opened, routes_in, standing_after, standing_at, standing_in, text_said, with_kept}
 use Rattle.zq_tables.specs.Naming.{said_of}
-use Rattle.zq_trace.specs.Faces.{Face, Trace, called, changed, face_at, handed_to, heard, new_face, says, told, with_theirs}
+use Rattle.zq_trace.specs.Faces.{Face, Trace, called, changed, face_at, handed_to, heard, new_face, says, told, with_mark, with_theirs}
+use Rattle.zq_trace.specs.Selected.{seen}
+use Rattle.zq_trace.proofs.Offered.{lean}
 use Rattle.zq_trace.proofs.Runs.{IsRun, calls_of, reached, run_promise, state_of}
 
 -- ---- what stands, call by call
@@ -57,6 +59,7 @@ pub record IsSame (config : Settings) (s : Standing) (f : Face) : Type 0 where
   pub numbers : f.numbers ≡ s.numbers
   pub nodes : f.nodes ≡ s.kept.nodes
   pub queryables : routes_in config s.opened.region ≡ false → f.queryables ≡ s.kept.declared
+  pub kept : lean true (seen f) ≡ lean true s.kept
 
 abbrev pub Alike : Settings → Option Standing → Option Face → Type 0
 Alike config None None = Unit {0}
@@ -78,12 +81,6 @@ module _ (config : Settings) (q : ℕ) where
   mapped_one h keeps (Some s) None same = same
   mapped_one h keeps (Some s) (Some f) same = keeps s f same
 
-  mapped_other : (g : Standing → Standing) → ((s : Standing) (f : Face) → IsSame config s f → IsSame config (g s) f) → (s : Option Standing) (f : Option Face) → Alike config s f → Alike config (option_map g s) f
-  mapped_other g keeps None None same = tt
-  mapped_other g keeps None (Some f) same = same
-  mapped_other g keeps (Some s) None same = same
-  mapped_other g keeps (Some s) (Some f) same = keeps s f same
-
   chosen_alike : (b : Bool) (s z : Option Standing) (f g : Option Face) → Alike config s f → Alike config z g → Alike config (cond b s z) (cond b f g)
   chosen_alike true s z f g one two = one
   chosen_alike false s z f g one two = two
@@ -94,7 +91,7 @@ module _ (config : Settings) (q : ℕ) where
 
   -- ---- what a face hears
   body_heard : (d : DeclareBody) (s : Standing) (f : Face) → IsSame config s f → IsSame config (standing_heard_body d s) (told d f)
-  body_heard (body.DeclareKeyExpr id w) s f same = record { region = same.region; zid = same.zid; space = same.space; denied = same.denied; numbers = ap (with_ours id w.suffix) same.numbers; nodes = same.nodes; queryables = same.queryables }
+  body_heard (body.DeclareKeyExpr id w) s f same = record { region = same.region; zid = same.zid; space = same.space; denied = same.denied; numbers = ap (with_ours id w.suffix) same.numbers; nodes = same.nodes; queryables = same.queryables; kept = same.kept }
   body_heard (body.UndeclareKeyExpr id) s f same = same
   body_heard (body.DeclareQueryable id w info) s f same = same
   body_heard (body.UndeclareQueryable id w) s f same = same
@@ -138,21 +135,13 @@ module _ (config : Settings) (q : ℕ) where
       by true = mapped_one h keeps s f same
       by false = same
 
-  -- and for one of the machine's alone
-  by_machine : (face : ℕ) (g : Standing → Standing) (s : Option Standing) (f : Option Face) → ((x : Standing) (y : Face) → IsSame config x y → IsSame config (g x) y) → Alike config s f → Alike config (if face == q then option_map g s else s) f
-  by_machine face g s f keeps same = by (face == q)
-    where
-      by : (b : Bool) → Alike config (cond b (option_map g s) s) f
-      by true = mapped_other g keeps s f same
-      by false = same
-
-  marked_same : (m : FinalMark) (set : Bool) (s : Standing) (f : Face) → IsSame config s f → IsSame config (with_kept s (marked m set s.kept)) f
-  marked_same mark.Initial set s f same = record { region = same.region; zid = same.zid; space = same.space; denied = same.denied; numbers = same.numbers; nodes = same.nodes; queryables = same.queryables }
-  marked_same (mark.Key key) true s f same = record { region = same.region; zid = same.zid; space = same.space; denied = same.denied; numbers = same.numbers; nodes = same.nodes; queryables = same.queryables }
-  marked_same (mark.Key key) false s f same = record { region = same.region; zid = same.zid; space = same.space; denied = same.denied; numbers = same.numbers; nodes = same.nodes; queryables = same.queryables }
+  marked_same : (m : FinalMark) (set : Bool) (s : Standing) (f : Face) → IsSame config s f → IsSame config (with_kept s (marked m set s.kept)) (with_mark m set f)
+  marked_same mark.Initial set s f same = record { region = same.region; zid = same.zid; space = same.space; denied = same.denied; numbers = same.numbers; nodes = same.nodes; queryables = same.queryables; kept = ap (marked mark.Initial set) same.kept }
+  marked_same (mark.Key key) true s f same = record { region = same.region; zid = same.zid; space = same.space; denied = same.denied; numbers = same.numbers; nodes = same.nodes; queryables = same.queryables; kept = ap (marked (mark.Key key) true) same.kept }
+  marked_same (mark.Key key) false s f same = record { region = same.region; zid = same.zid; space = same.space; denied = same.denied; numbers = same.numbers; nodes = same.nodes; queryables = same.queryables; kept = ap (marked (mark.Key key) false) same.kept }
 
   call_same : (c : Call) (answer : Outcome) (s : Option Standing) (f : Option Face) → Alike config s f → Alike config (accepted_at config q c answer s) (called q c answer f)
-  call_same (call.Open o) (outcome.Opened n) s f same = chosen_alike (n.0 == q) (Some (newly_opened config.start.told q o)) s (Some (new_face o)) f (record { region = refl; zid = refl; space = refl; denied = refl; numbers = refl; nodes = refl; queryables = λ h. refl }) same
+  call_same (call.Open o) (outcome.Opened n) s f same = chosen_alike (n.0 == q) (Some (newly_opened config.start.told q o)) s (Some (new_face o)) f (record { region = refl; zid = refl; space = refl; denied = refl; numbers = refl; nodes = refl; queryables = λ h. refl; kept = refl }) same
   call_same (call.Open o) (outcome.Asked n) s f same = same
   call_same (call.Open o) (outcome.Replied n) s f same = same
   call_same (call.Open o) outcome.Done s f same = same
@@ -168,6 +157,7 @@ module _ (config : Settings) (q : ℕ) where
         numbers = λ j. record (is.numbers j) { theirs = insert_entry nat_cmp (is.numbers j).theirs id (full_text (says_same w x y is j)) };
         nodes = is.nodes;
         queryables = is.queryables;
+        kept = is.kept;
       }) same
   call_same (call.UndeclareKeyExpr n id) answer s f same =
       by_face n.0 (declaring_at config (call.UndeclareKeyExpr n id)) (λ y. with_theirs y (remove_entry (is_at (nat_cmp id)) y.numbers.theirs)) s f
@@ -179,31 +169,32 @@ module _ (config : Settings) (q : ℕ) where
         numbers = λ j. record (is.numbers j) { theirs = remove_entry (is_at (nat_cmp id)) (is.numbers j).theirs };
         nodes = is.nodes;
         queryables = is.queryables;
+        kept = is.kept;
       }) same
   call_same (call.DeclareQueryable n id w info node) answer s f same =
       by_face n.0 (declaring_at config (call.DeclareQueryable n id w info node)) (λ y. record y { queryables = insert_entry nat_cmp y.queryables id (record { key = full_text (says w y); info = info }) }) s f
       (λ x y is.
       let g : Face = record y { queryables = insert_entry nat_cmp y.queryables id (record { key = full_text (says w y); info = info }) } in
       declared_same (routes_in config x.opened.region) x (declare id (text_said x w) info x.kept) y g refl
-      (λ yes'. record { region = is.region; zid = is.zid; space = is.space; denied = is.denied; numbers = is.numbers; nodes = is.nodes; queryables = λ not'. absurd (false≢true (sym not' ∙ yes')) })
-      (λ not'. record { region = is.region; zid = is.zid; space = is.space; denied = is.denied; numbers = is.numbers; nodes = is.nodes; queryables = λ h. λ j. insert_entry nat_cmp (is.queryables h j) id (record { key = full_text (says_same w x y is j); info = info }) })) same
+      (λ yes'. record { region = is.region; zid = is.zid; space = is.space; denied = is.denied; numbers = is.numbers; nodes = is.nodes; queryables = λ not'. absurd (false≢true (sym not' ∙ yes')); kept = is.kept })
+      (λ not'. record { region = is.region; zid = is.zid; space = is.space; denied = is.denied; numbers = is.numbers; nodes = is.nodes; queryables = λ h. λ j. insert_entry nat_cmp (is.queryables h j) id (record { key = full_text (says_same w x y is j); info = info }); kept = is.kept })) same
   call_same (call.UndeclareQueryable n id w node) answer s f same =
       by_face n.0 (declaring_at config (call.UndeclareQueryable n id w node)) (λ y. record y { queryables = remove_entry (is_at (nat_cmp id)) y.queryables }) s f
       (λ x y is.
       let g : Face = record y { queryables = remove_entry (is_at (nat_cmp id)) y.queryables } in
       declared_same (routes_in config x.opened.region) x (withdraw id x.kept) y g refl
-      (λ yes'. record { region = is.region; zid = is.zid; space = is.space; denied = is.denied; numbers = is.numbers; nodes = is.nodes; queryables = λ not'. absurd (false≢true (sym not' ∙ yes')) })
-      (λ not'. record { region = is.region; zid = is.zid; space = is.space; denied = is.denied; numbers = is.numbers; nodes = is.nodes; queryables = λ h. ap (remove_entry (is_at (nat_cmp id))) (is.queryables h) })) same
-  call_same (call.FinalizeInterest n m set) answer s f same = by_machine n.0 (declaring_at config (call.FinalizeInterest n m set)) s f (λ x y is. marked_same m set x y is) same
+      (λ yes'. record { region = is.region; zid = is.zid; space = is.space; denied = is.denied; numbers = is.numbers; nodes = is.nodes; queryables = λ not'. absurd (false≢true (sym not' ∙ yes')); kept = is.kept })
+      (λ not'. record { region = is.region; zid = is.zid; space = is.space; denied = is.denied; numbers = is.numbers; nodes = is.nodes; queryables = λ h. ap (remove_entry (is_at (nat_cmp id))) (is.queryables h); kept = is.kept })) same
+  call_same (call.FinalizeInterest n m set) answer s f same = by_face n.0 (declaring_at config (call.FinalizeInterest n m set)) (with_mark m set) s f (λ x y is. marked_same m set x y is) same
   call_same (call.SetNodeIds n ids) answer s f same =
       by_face n.0 (declaring_at config (call.SetNodeIds n ids)) (λ y. record y { nodes = ids }) s f
-      (λ x y is. record { region = is.region; zid = is.zid; space = is.space; denied = is.denied; numbers = is.numbers; nodes = refl; queryables = is.queryables }) same
+      (λ x y is. record { region = is.region; zid = is.zid; space = is.space; denied = is.denied; numbers = is.numbers; nodes = refl; queryables = is.queryables; kept = λ j. record (is.kept j) { nodes = ids } }) same
   call_same (call.Interest n id keys aggregate w) answer s f same =
       by_trace n.0 (λ y. record y { interests = insert_entry nat_cmp y.interests id (option_map (λ x. full_text (says x y)) w) }) s f
-      (λ x y is. record { region = is.region; zid = is.zid; space = is.space; denied = is.denied; numbers = is.numbers; nodes = is.nodes; queryables = is.queryables }) same
+      (λ x y is. record { region = is.region; zid = is.zid; space = is.space; denied = is.denied; numbers = is.numbers; nodes = is.nodes; queryables = is.queryables; kept = is.kept }) same
   call_same (call.InterestFinal n id) answer s f same =
       by_trace n.0 (λ y. record y { interests = remove_entry (is_at (nat_cmp id)) y.interests }) s f
-      (λ x y is. record { region = is.region; zid = is.zid; space = is.space; denied = is.denied; numbers = is.numbers; nodes = is.nodes; queryables = is.queryables }) same
+      (λ x y is. record { region = is.region; zid = is.zid; space = is.space; denied = is.denied; numbers = is.numbers; nodes = is.nodes; queryables = is.queryables; kept = is.kept }) same
   call_same c answer s f same = same
 
   step_same : (c : Call) (t : Step) (past : Trace) (s : Option Standing) → Alike config s (face_at past q) → Alike config (standing_after config q c t s) (face_at ((c, t) ∷ past) q)

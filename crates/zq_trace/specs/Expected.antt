@@ -26,7 +26,7 @@ use Rattle.zq_machine.specs.Gates.{reply_by}
 use Rattle.zq_machine.specs.Selecting.{full_text}
 use Rattle.zq_trace.specs.Faces.{Face, Trace, face_at, is_closed}
 use Rattle.zq_trace.specs.Awaited.{Owed, asked_by, free_id, next_reply, owner, pending, request, requests, waits}
-use Rattle.zq_trace.specs.Selected.{Others, asked_key, select}
+use Rattle.zq_trace.specs.Selected.{asked_key, select}
 
 -- ---- what is handed, as it is read
 
@@ -63,9 +63,9 @@ abbrev pub request_to : Settings → Trace → Request → List ℕ → QueryTar
 request_to config past r q o = record { to = o.face; number = Some (next_request config past); reply = None; message = message.Request (record r { id = unwrap_or (free_id config past o.face.0) 0; wire = plain q; node = o.node }) }
 
 -- the requests that an accepted call hands: one to each face that is picked
-abbrev pub requests_of : Others → Settings → Trace → Call → List Shown
-requests_of o config past (call.Request face r now) = map (request_to config past r (unwrap_or (asked_key past face r) [])) (select o config past face r)
-requests_of o config past c = []
+abbrev pub requests_of : Settings → Trace → Call → List Shown
+requests_of config past (call.Request face r now) = map (request_to config past r (unwrap_or (asked_key past face r) [])) (select config past face r)
+requests_of config past c = []
 
 -- ---- replies
 

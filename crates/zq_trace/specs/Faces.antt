@@ -1,17 +1,24 @@
 -- What stands of each face at a point of a trace: it is read off the calls, their outcomes and what they handed.
-use Rattle.std.specs.Prelude.{ℕ, ◌==◌, Bool, false, ◌||◌, ◌&&◌, List, [], ◌∷◌, ◌++◌, fold, Option, Some, None, if◌then◌else◌}
+use Rattle.std.specs.Prelude.{ℕ, ◌==◌, Bool, true, false, ◌||◌, ◌&&◌, List, [], ◌∷◌, ◌++◌, fold, Option, Some, None, if◌then◌else◌}
 use Rattle.std.specs.BTreeMap.{insert_entry, is_at}
+use Rattle.std.specs.BTreeSet.{insert_key}
 use Rattle.std.specs.Map.{remove_entry}
 use Rattle.std.specs.Option.{option_map, option_map_or}
 use Rattle.std.specs.Ordering.{nat_cmp}
+use Rattle.std.specs.Set.{remove_key}
+use Rattle.zq_message.specs.declared.message.Bound.{Bound}
 use Rattle.zq_message.specs.declared.message.DeclareBody.{DeclareBody}
 use Rattle.zq_message.specs.declared.message.DeclareBody.TheVariants as body
 use Rattle.zq_message.specs.declared.message.Message.{Message}
 use Rattle.zq_message.specs.declared.message.Message.TheVariants as message
+use Rattle.zq_message.specs.declared.message.Mode.{Mode}
 use Rattle.zq_message.specs.declared.message.Region.{Region}
 use Rattle.zq_message.specs.declared.message.WireExpr.{WireExpr}
 use Rattle.zq_message.specs.declared.message.Zid.{Zid}
+use Rattle.zq_index.specs.Texts.{text_cmp}
 use Rattle.zq_strategy.specs.declared.types.Declaration.{Declaration}
+use Rattle.zq_strategy.specs.declared.types.FinalMark.{FinalMark}
+use Rattle.zq_strategy.specs.declared.types.FinalMark.TheVariants as mark
 use Rattle.zq_strategy.specs.declared.network.NodeIds.{NodeIds}
 use Rattle.zq_tables.specs.FaceIds.{with_id}
 use Rattle.zq_tables.specs.Naming.{FaceNaming, no_names, said_of}
@@ -31,20 +38,24 @@ use Rattle.zq_machine.specs.Selecting.{full_text}
 abbrev pub Trace : Type 0
 Trace = List (Call × Step)
 
--- what stands of an open face: its region, its node's id, its namespace and the keys that it may not ask for, as it was opened; the numbers for keys that it declared, and those that were declared to it; its queryables and the keys of its interests, by id; and its node table
+-- what stands of an open face: its region, its node's id and mode, the side of that node on which the gateway lies, its namespace and the keys that it may not ask for, as it was opened; the numbers for keys that it declared, and those that were declared to it; its queryables and the keys of its interests, by id; whether all that it had to declare at its opening has come, and the keys, in order, on which all has come; and its node table
 pub record Face : Type 0 where
   pub region : Region
   pub zid : Zid
+  pub mode : Mode
+  pub bound : Bound
   pub space : Option (List ℕ)
   pub denied : List (List ℕ)
   pub numbers : FaceNaming
   pub queryables : List (ℕ × Declaration)
   pub interests : List (ℕ × Option (List ℕ))
+  pub initial : Bool
+  pub finalized : List (List ℕ)
   pub nodes : NodeIds
 
 -- a face as it is opened
 abbrev pub new_face : Opening → Face
-new_face o = record { region = o.region; zid = o.zid; space = o.namespace; denied = o.entry_deny; numbers = no_names; queryables = []; interests = []; nodes = record { ids = [] } }
+new_face o = record { region = o.region; zid = o.zid; mode = o.mode; bound = o.remote_bound; space = o.namespace; denied = o.entry_deny; numbers = no_names; queryables = []; interests = []; initial = false; finalized = []; nodes = record { ids = [] } }
 
 -- what an expression says that the face sends: behind its namespace, by the numbers that stand there
 abbrev pub says : WireExpr → Face → Resolved
@@ -54,6 +65,12 @@ says w f = said_of f.numbers (entered_by f.space w)
 abbrev pub with_theirs : Face → List (ℕ × List ℕ) → Face
 with_theirs f names = record f { numbers = record f.numbers { theirs = names } }
 
+-- with a mark set, or unset: that all that it had to declare has come, at its opening or on a key
+abbrev pub with_mark : FinalMark → Bool → Face → Face
+with_mark mark.Initial set f = record f { initial = set }
+with_mark (mark.Key key) true f = record f { finalized = insert_key text_cmp f.finalized key }
+with_mark (mark.Key key) false f = record f { finalized = remove_key (is_at (text_cmp key)) f.finalized }
+
 -- the face that a call changes, if it is accepted, and how
 abbrev pub change : Call → Option (ℕ × (Face → Face))
 change (call.DeclareKeyExpr face id w) = Some (face.0, λ f. with_theirs f (insert_entry nat_cmp f.numbers.theirs id (full_text (says w f))))
@@ -62,6 +79,7 @@ change (call.DeclareQueryable face id w info node) = Some (face.0, λ f. record 
 change (call.UndeclareQueryable face id w node) = Some (face.0, λ f. record f { queryables = remove_entry (is_at (nat_cmp id)) f.queryables })
 change (call.Interest face id keys aggregate w) = Some (face.0, λ f. record f { interests = insert_entry nat_cmp f.interests id (option_map (λ x. full_text (says x f)) w) })
 change (call.InterestFinal face id) = Some (face.0, λ f. record f { interests = remove_entry (is_at (nat_cmp id)) f.interests })
+change (call.FinalizeInterest face m set) = Some (face.0, with_mark m set)
 change (call.SetNodeIds face ids) = Some (face.0, λ f. record f { nodes = ids })
 change c = None
 

@@ -15,9 +15,8 @@ use Rattle.zq_machine.specs.Configs.{Settings}
 use Rattle.zq_machine.specs.Deciding.{is_accepted}
 use Rattle.zq_trace.specs.Faces.{Trace}
 use Rattle.zq_trace.specs.Awaited.{next_reply, owner}
-use Rattle.zq_trace.specs.Selected.{Others}
 use Rattle.zq_trace.specs.Expected.{finals_of, if_open, next_request, replies_of, requests_of, shown}
-use Rattle.zq_trace.specs.Refusals.{next_face, refusal_of}
+use Rattle.zq_trace.specs.Refusals.{Lacks, next_face, refusal_of}
 
 -- the number under which a reply is accepted: none if its asker is closed
 abbrev pub reply_number : Settings → Trace → Option Final → Option ℕ
@@ -31,8 +30,8 @@ granted config past (call.Response face r) = outcome.Replied (reply_number confi
 granted config past c = outcome.Done
 
 -- what a call is answered: the first cause that holds refuses it
-abbrev pub answer : Others → Settings → Trace → Call → Outcome
-answer o config past c = option_map_or (λ r. outcome.Refused r) (refusal_of o config past c) (granted config past c)
+abbrev pub answer : Lacks → Settings → Trace → Call → Outcome
+answer lacks config past c = option_map_or (λ r. outcome.Refused r) (refusal_of lacks config past c) (granted config past c)
 
 -- a refused call hands nothing
 abbrev pub if_accepted : {X : Type 0} → Step → List X → List X
@@ -54,9 +53,9 @@ abbrev pub is_numbered : Handed → Bool
 is_numbered h = is_some h.number || is_some h.reply
 
 -- what one call of a trace keeps: it is answered what it has to be; it hands these requests, these replies and these finals, in this order, and then declarations, which have no number; and nothing, where it is refused
-pub record CallHeadline (o : Others) (config : Settings) (past : Trace) (c : Call) (t : Step) : Type 0 where
-  pub answered : t.outcome ≡ answer o config past c
-  pub requests : map (shown past) (of_kind 0 t.handed) ≡ if_accepted t (requests_of o config past c)
+pub record CallHeadline (lacks : Lacks) (config : Settings) (past : Trace) (c : Call) (t : Step) : Type 0 where
+  pub answered : t.outcome ≡ answer lacks config past c
+  pub requests : map (shown past) (of_kind 0 t.handed) ≡ if_accepted t (requests_of config past c)
   pub replies : map (shown past) (of_kind 1 t.handed) ≡ if_accepted t (replies_of config past c)
   pub finals : map (shown past) (of_kind 2 t.handed) ≡ if_accepted t (finals_of config past c t)
   pub ordered : of_kind 0 t.handed ++ of_kind 1 t.handed ++ of_kind 2 t.handed ++ of_kind 3 t.handed ≡ t.handed
@@ -64,12 +63,12 @@ pub record CallHeadline (o : Others) (config : Settings) (past : Trace) (c : Cal
   pub silent : is_accepted t.outcome ≡ false → t.handed ≡ []
 
 -- each call keeps it, behind those before
-abbrev pub HeadlineFrom : Others → Settings → Trace → List Call → List Step → Type 0
-HeadlineFrom o config past [] [] = Unit {0}
-HeadlineFrom o config past [] (t ∷ ts) = ⊥
-HeadlineFrom o config past (c ∷ cs) [] = ⊥
-HeadlineFrom o config past (c ∷ cs) (t ∷ ts) = CallHeadline o config past c t × HeadlineFrom o config ((c, t) ∷ past) cs ts
+abbrev pub HeadlineFrom : Lacks → Settings → Trace → List Call → List Step → Type 0
+HeadlineFrom lacks config past [] [] = Unit {0}
+HeadlineFrom lacks config past [] (t ∷ ts) = ⊥
+HeadlineFrom lacks config past (c ∷ cs) [] = ⊥
+HeadlineFrom lacks config past (c ∷ cs) (t ∷ ts) = CallHeadline lacks config past c t × HeadlineFrom lacks config ((c, t) ∷ past) cs ts
 
 -- the headline
-abbrev pub Headline : Others → Settings → List Call → List Step → Type 0
-Headline o config calls steps = HeadlineFrom o config [] calls steps
+abbrev pub Headline : Lacks → Settings → List Call → List Step → Type 0
+Headline lacks config calls steps = HeadlineFrom lacks config [] calls steps

@@ -1,11 +1,13 @@
 -- What refuses a call, by the calls and answers before it.
-use Rattle.std.specs.Prelude.{ℕ, ◌+◌, ◌^◌, ◌==◌, Bool, true, false, not, ◌||◌, ◌&&◌, nat_lt, List, [], ◌∷◌, ◌++◌, length, Option, if◌then◌else◌, is_none}
+use Rattle.std.specs.Prelude.{ℕ, ◌+◌, ◌^◌, ◌==◌, Bool, true, false, not, ◌||◌, ◌&&◌, nat_lt, List, [], ◌∷◌, ◌++◌, length, Option, if◌then◌else◌, is_none, slice_get}
 use Rattle.std.specs.List.{list_any}
 use Rattle.std.specs.Str.{bytes_eq}
 use Rattle.std.specs.Option.{is_some, option_and_then, option_map, option_map_or}
 use Rattle.zq_message.specs.declared.message.FaceId.{FaceId}
 use Rattle.zq_message.specs.declared.message.Region.{Region}
 use Rattle.zq_message.specs.declared.message.WireExpr.{WireExpr}
+use Rattle.zq_message.specs.declared.message.Zid.{Zid}
+use Rattle.zq_strategy.specs.Entries.{entry_of}
 use Rattle.zq_strategy.specs.Kept.{has_any}
 use Rattle.zq_strategy.specs.Regions.{is_upstream}
 use Rattle.zq_strategy.specs.declared.types.Declaration.{Declaration}
@@ -27,8 +29,12 @@ use Rattle.zq_machine.specs.Selecting.{full_text, is_unscoped, says_key, says_ke
 use Rattle.zq_machine.specs.State.{at}
 use Rattle.zq_trace.specs.Faces.{Face, Trace, face_at, faces, says}
 use Rattle.zq_trace.specs.Awaited.{free_id, in_flight, is_taken, next_reply, owner, pending}
-use Rattle.zq_trace.specs.Selected.{Others, faces_in, is_routers, regions, select, source_of, strategy_in}
+use Rattle.zq_trace.specs.Selected.{faces_in, is_routers, regions, routers, select, source_of, strategy_in}
 use Rattle.zq_trace.specs.Expected.{if_open, next_request, reply_says, timed_out}
+
+-- what is left to the tellings of keys: that too few ids are left for what a call has to tell
+abbrev pub Lacks : Type 0
+Lacks = Trace → Call → Bool
 
 -- what of an open face passes the test
 abbrev pub of_face : Trace → FaceId → (Face → Bool) → Bool
@@ -82,42 +88,46 @@ is_router config f = is_routers (strategy_in config f.region)
 abbrev pub no_router : Settings → Trace → FaceId → ℕ → Cause
 no_router config past face node = (of_face past face (λ f. option_map_or (is_zid config.zid) (source_of config node f) true), refusal.UnknownRouter)
 
+-- the router that a node of the face stands for has an entry on the key
+abbrev pub has_entry : Trace → ℕ → List ℕ → Face → Bool
+has_entry past node key f = option_map_or (λ (z : Zid). is_some (entry_of z.0 key (routers past f.region).entries)) (slice_get f.nodes.ids node) false
+
 -- a withdrawal refuses: in a region of routers by its expression, in any other by its id
-abbrev pub no_entry : Others → Settings → Trace → FaceId → ℕ → Option WireExpr → ℕ → List Cause
-no_entry o config past face id w node =
+abbrev pub no_entry : Settings → Trace → FaceId → ℕ → Option WireExpr → ℕ → List Cause
+no_entry config past face id w node =
     let key = option_map_or (said_at past face) w said.Empty in
-    if of_face past face (is_router config) then no_key key ++ no_router config past face node ∷ (not (o.has_entry past face node (full_text key)), refusal.UnknownId) ∷ []
+    if of_face past face (is_router config) then no_key key ++ no_router config past face node ∷ (not (of_face past face (has_entry past node (full_text key))), refusal.UnknownId) ∷ []
     else (not (of_face past face (λ f. is_some (at id f.queryables))), refusal.UnknownId) ∷ []
 
 -- what may refuse a call, in order
-abbrev pub causes : Others → Settings → Trace → Call → List Cause
-causes o config past (call.Open x) =
-    no_region config x.region ∷ (not (is_sound x), refusal.InvalidKeyExpr) ∷ (is_full config past x.region, refusal.UpstreamInUse) ∷ (next_face config past + 1 == 2 ^ 32, refusal.NoFreeId) ∷ (o.lacks_told past (call.Open x), refusal.NoFreeId) ∷ []
-causes o config past (call.Close face) = unknown past face ∷ []
-causes o config past (call.DeclareKeyExpr face id w) =
+abbrev pub causes : Lacks → Settings → Trace → Call → List Cause
+causes lacks config past (call.Open x) =
+    no_region config x.region ∷ (not (is_sound x), refusal.InvalidKeyExpr) ∷ (is_full config past x.region, refusal.UpstreamInUse) ∷ (next_face config past + 1 == 2 ^ 32, refusal.NoFreeId) ∷ (lacks past (call.Open x), refusal.NoFreeId) ∷ []
+causes lacks config past (call.Close face) = unknown past face ∷ []
+causes lacks config past (call.DeclareKeyExpr face id w) =
     unknown past face ∷ no_key (said_at past face w) ++ (of_face past face (λ f. remaps id (full_text (says w f)) (text_at id f.numbers.theirs)), refusal.Remapped) ∷ []
-causes o config past (call.UndeclareKeyExpr face id) = unknown past face ∷ (of_face past face (λ f. is_none (text_at id f.numbers.theirs)), refusal.UnknownId) ∷ []
-causes o config past (call.DeclareQueryable face id w info node) =
+causes lacks config past (call.UndeclareKeyExpr face id) = unknown past face ∷ (of_face past face (λ f. is_none (text_at id f.numbers.theirs)), refusal.UnknownId) ∷ []
+causes lacks config past (call.DeclareQueryable face id w info node) =
     unknown past face ∷ no_key (said_at past face w)
     ++ (if of_face past face (is_router config) then no_router config past face node else (of_face past face (clashes id (full_text (said_at past face w))), refusal.IdInUse))
-    ∷ (o.lacks_told past (call.DeclareQueryable face id w info node), refusal.NoFreeId) ∷ []
-causes o config past (call.UndeclareQueryable face id w node) = unknown past face ∷ no_entry o config past face id w node
-causes o config past (call.Interest face id keys aggregate w) =
+    ∷ (lacks past (call.DeclareQueryable face id w info node), refusal.NoFreeId) ∷ []
+causes lacks config past (call.UndeclareQueryable face id w node) = unknown past face ∷ no_entry config past face id w node
+causes lacks config past (call.Interest face id keys aggregate w) =
     unknown past face ∷ option_map_or (λ x. no_key (said_at past face x)) w []
-    ++ (of_face past face (asks_else id (option_map (λ x. full_text (said_at past face x)) w)), refusal.IdInUse) ∷ (o.lacks_told past (call.Interest face id keys aggregate w), refusal.NoFreeId) ∷ []
-causes o config past (call.InterestFinal face id) = unknown past face ∷ (of_face past face (λ f. is_none (at id f.interests)), refusal.UnknownId) ∷ []
-causes o config past (call.FinalizeInterest face mark set) = unknown past face ∷ (not (marks_key mark), refusal.InvalidKeyExpr) ∷ []
-causes o config past (call.Request face r now) = unknown past face ∷ (lacks_id config past (select o config past face r), refusal.NoFreeId) ∷ []
-causes o config past (call.Response face r) =
+    ++ (of_face past face (asks_else id (option_map (λ x. full_text (said_at past face x)) w)), refusal.IdInUse) ∷ (lacks past (call.Interest face id keys aggregate w), refusal.NoFreeId) ∷ []
+causes lacks config past (call.InterestFinal face id) = unknown past face ∷ (of_face past face (λ f. is_none (at id f.interests)), refusal.UnknownId) ∷ []
+causes lacks config past (call.FinalizeInterest face mark set) = unknown past face ∷ (not (marks_key mark), refusal.InvalidKeyExpr) ∷ []
+causes lacks config past (call.Request face r now) = unknown past face ∷ (lacks_id config past (select config past face r), refusal.NoFreeId) ∷ []
+causes lacks config past (call.Response face r) =
     unknown past face ∷ (is_unscoped (reply_says past face r), refusal.UnknownScope) ∷ (not (is_taken (pending config past) face.0 r.rid), refusal.QueryNotFound)
     ∷ (not (says_key_or_nothing (reply_says past face r)), refusal.InvalidKeyExpr) ∷ (is_some (option_and_then (if_open past) (owner config past face.0 r.rid)) && (next_reply config past + 1 == 2 ^ 64), refusal.NoFreeId) ∷ []
-causes o config past (call.ResponseFinal face rid) = unknown past face ∷ (not (is_taken (pending config past) face.0 rid), refusal.QueryNotFound) ∷ []
-causes o config past (call.Sent reply) = (not (list_any (λ (f : ℕ × ℕ). f.1 == reply) (in_flight past)), refusal.NotInFlight) ∷ []
-causes o config past (call.Poll now) = (lacks_replies config past (length (timed_out config past now)), refusal.NoFreeId) ∷ []
-causes o config past (call.SetGateways r table) = no_region config r ∷ []
-causes o config past (call.SetNetwork r net) = no_region config r ∷ []
-causes o config past (call.SetNodeIds face ids) = unknown past face ∷ []
+causes lacks config past (call.ResponseFinal face rid) = unknown past face ∷ (not (is_taken (pending config past) face.0 rid), refusal.QueryNotFound) ∷ []
+causes lacks config past (call.Sent reply) = (not (list_any (λ (f : ℕ × ℕ). f.1 == reply) (in_flight past)), refusal.NotInFlight) ∷ []
+causes lacks config past (call.Poll now) = (lacks_replies config past (length (timed_out config past now)), refusal.NoFreeId) ∷ []
+causes lacks config past (call.SetGateways r table) = no_region config r ∷ []
+causes lacks config past (call.SetNetwork r net) = no_region config r ∷ []
+causes lacks config past (call.SetNodeIds face ids) = unknown past face ∷ []
 
 -- the first cause that holds
-abbrev pub refusal_of : Others → Settings → Trace → Call → Option Refusal
-refusal_of o config past c = first_of (causes o config past c)
+abbrev pub refusal_of : Lacks → Settings → Trace → Call → Option Refusal
+refusal_of lacks config past c = first_of (causes lacks config past c)

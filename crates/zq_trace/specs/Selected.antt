@@ -1,26 +1,22 @@
 -- Which offers a request is handed to, by the calls and answers before it.
 use Rattle.std.specs.Prelude.{ℕ, ◌==◌, Bool, true, false, not, ◌&&◌, List, [], ◌∷◌, fold, map, Option, Some, None, if◌then◌else◌, slice_get}
-use Rattle.std.specs.List.{filter, filter_map, flat_map, list_any}
+use Rattle.std.specs.List.{filter, filter_map}
 use Rattle.std.specs.Map.{values_of}
-use Rattle.std.specs.BTreeSet.{insert_key}
 use Rattle.std.specs.Option.{option_and_then, option_map, option_map_or}
-use Rattle.std.specs.Str.{bytes_eq}
 use Rattle.zq_message.specs.declared.message.FaceId.{FaceId}
 use Rattle.zq_message.specs.declared.message.Region.{Region}
 use Rattle.zq_message.specs.declared.message.Request.{Request}
 use Rattle.zq_message.specs.declared.message.Zid.{Zid}
-use Rattle.zq_key.specs.Key.{includes, intersects}
 use Rattle.zq_namespace.specs.Denied.{is_denied}
 use Rattle.zq_message.specs.Region.{region_index}
 use Rattle.zq_message.specs.RegionMap.{with_entry as with_value}
-use Rattle.zq_index.specs.Texts.{text_cmp}
 use Rattle.zq_strategy.specs.declared.offer.QueryTargetQabl.{QueryTargetQabl}
-use Rattle.zq_strategy.specs.OfferOrder.{sorted}
-use Rattle.zq_strategy.specs.OfferOrder.{is_local, offer_cmp}
-use Rattle.zq_strategy.specs.declared.types.Declaration.{Declaration}
 use Rattle.zq_strategy.specs.declared.types.Strategy.{Strategy}
 use Rattle.zq_strategy.specs.declared.types.Strategy.TheVariants as strategy
-use Rattle.zq_strategy.specs.Regions.{strategy_of}
+use Rattle.zq_strategy.specs.Nets.{no_network, place_of}
+use Rattle.zq_strategy.specs.Offers.{offers_of}
+use Rattle.zq_strategy.specs.Regions.{same_region, strategy_of}
+use Rattle.zq_strategy.specs.State.{FaceState, HatState}
 use Rattle.zq_route.specs.declared.filter.InterRegionFilter.{InterRegionFilter}
 use Rattle.zq_route.specs.declared.gateways.Gateways.{Gateways}
 use Rattle.zq_route.specs.Selection.{picked as by_target, with_offers}
@@ -31,13 +27,8 @@ use Rattle.zq_machine.specs.declared.call.Call.TheVariants as call
 use Rattle.zq_machine.specs.Configs.{Settings, north_of, region_of}
 use Rattle.zq_machine.specs.Deciding.{is_accepted}
 use Rattle.zq_machine.specs.Selecting.{carries_between, full_text, says_key}
+use Rattle.zq_machine.specs.Standing.{Routed, with_network, with_routed, without_routed}
 use Rattle.zq_trace.specs.Faces.{Face, Trace, face_at, faces, says}
-
--- what is left to the regions of clients, peers and routers and to the tellings of keys: what a region that is no broker's offers to an asker's request of a node on a key; that too few ids are left for what a call has to tell; that the router that a node stands for has an entry on a key
-pub record Others : Type 0 where
-  pub offers : Trace → Region → FaceId → ℕ → List ℕ → List QueryTargetQabl
-  pub lacks_told : Trace → Call → Bool
-  pub has_entry : Trace → FaceId → ℕ → List ℕ → Bool
 
 -- ---- regions
 
@@ -48,11 +39,6 @@ regions config = values_of (fold (λ rs (e : Entry). with_value rs (region_of e)
 -- the strategy of a region
 abbrev pub strategy_in : Settings → Region → Strategy
 strategy_in config r = strategy_of r (north_of config.entries)
-
--- it is a broker's
-abbrev pub is_broker : Strategy → Bool
-is_broker strategy.Broker = true
-is_broker s = false
 
 -- it is one of routers
 abbrev pub is_routers : Strategy → Bool
@@ -69,8 +55,6 @@ abbrev pub gateways : Trace → List (ℕ × Gateways)
 gateways [] = []
 gateways (x ∷ past) = if is_accepted x.1.outcome then listed x.0 (gateways past) else gateways past
 
--- ---- what brokers offer
-
 -- a face with its number, where it is of the region
 abbrev pub in_region : Region → ℕ → Face → Option (ℕ × Face)
 in_region r n f = if region_index f.region == region_index r then Some (n, f) else None
@@ -79,33 +63,41 @@ in_region r n f = if region_index f.region == region_index r then Some (n, f) el
 abbrev pub faces_in : Trace → Region → List (ℕ × Face)
 faces_in past r = filter_map (λ n. option_and_then (in_region r n) (face_at past n)) (faces past)
 
--- the keys that faces declared, in order, each once
-abbrev pub keys_in : List (ℕ × Face) → List (List ℕ)
-keys_in fs = fold (λ keys (f : ℕ × Face). fold (λ ks (d : ℕ × Declaration). insert_key text_cmp ks d.1.key) keys f.1.queryables) [] fs
+-- ---- what routers announced
 
--- the declaration is on the key
-abbrev pub is_on : List ℕ → ℕ × Declaration → Bool
-is_on key d = bytes_eq d.1.key key
+-- what a face of the region makes of the routers there: the one that it speaks for is the one that its node stands for
+abbrev pub by_router : Region → ℕ → (Face → Routed → Zid → Routed) → Routed → Face → Routed
+by_router r node makes was f = if region_index f.region == region_index r then option_map_or (makes f was) (slice_get f.nodes.ids node) was else was
 
--- what a face of a broker's region offers, if it declared the key: complete, if one of its declarations on the key is and the key includes the request's
-abbrev pub offer_on : Region → List ℕ → List ℕ → ℕ × Face → Option QueryTargetQabl
-offer_on r q key f =
-    if list_any (is_on key) f.1.queryables then Some (record {
-      face = record { 0 = f.0 };
-      info = Some (record { complete = list_any (λ (d : ℕ × Declaration). is_on key d && d.1.info.complete) f.1.queryables && includes key q; distance = if is_local r then 0 else 1 });
-      key = key;
-      region = r;
-      node = 0;
-    })
-    else None
+-- what an accepted call makes of the routers of a region: of their entries on keys, or of the network that is put in place
+abbrev pub announced : Region → Call → Trace → Routed → Routed
+announced r (call.DeclareQueryable face id w info node) past was = option_map_or (by_router r node (λ f. with_routed (full_text (says w f)) info) was) (face_at past face.0) was
+announced r (call.UndeclareQueryable face id w node) past was = option_map_or (by_router r node (λ f. without_routed (option_map_or (λ x. full_text (says x f)) w [])) was) (face_at past face.0) was
+announced r (call.SetNetwork region net) past was = if region_index region == region_index r then with_network net was else was
+announced r c past was = was
 
--- what the faces of a broker's region offer: one offer for each key that meets the request's and each face that declared it
-abbrev pub declared_offers : Region → List (ℕ × Face) → List ℕ → List QueryTargetQabl
-declared_offers r fs q = flat_map (λ key. if intersects key q then filter_map (offer_on r q key) fs else []) (keys_in fs)
+-- what stands of the routers of a region of routers
+abbrev pub routers : Trace → Region → Routed
+routers [] r = record { entries = []; network = no_network }
+routers (x ∷ past) r = if is_accepted x.1.outcome then announced r x.0 past (routers past r) else routers past r
 
--- what a region offers for a request, by distance, key and face
-abbrev pub offers_in : Others → Settings → Trace → FaceId → ℕ → List ℕ → Region → List QueryTargetQabl
-offers_in o config past asker node q r = if is_broker (strategy_in config r) then sorted offer_cmp (declared_offers r (faces_in past r) q) else o.offers past r asker node q
+-- ---- what a region offers
+
+-- what a region has of an open face, but for the id that it was told last
+abbrev pub seen : Face → FaceState
+seen f = record { zid = f.zid; mode = f.mode; remote_bound = f.bound; declared = f.queryables; last_told = 0; initial = f.initial; finalized = f.finalized; nodes = f.nodes }
+
+-- what stands of a region: its open faces, and what its routers announced
+abbrev pub hat_in : Settings → Trace → Region → HatState
+hat_in config past r = record { region = r; north_mode = north_of config.entries; own = config.zid; told_start = 0; faces = map (λ (f : ℕ × Face). (f.0, seen f.1)) (faces_in past r); entries = (routers past r).entries; network = (routers past r).network }
+
+-- the place of the router that a node of the face stands for, in the network of its region; outside regions of routers the first
+abbrev pub place_in : Settings → Trace → ℕ → Face → Option ℕ
+place_in config past node f = if is_routers (strategy_in config f.region) then option_and_then (place_of (routers past f.region).network) (slice_get f.nodes.ids node) else Some 0
+
+-- what a region offers to a face that asks for a key, with a node
+abbrev pub offers_in : Settings → Trace → ℕ → Face → List ℕ → Region → List QueryTargetQabl
+offers_in config past node f q r = offers_of (hat_in config past r) f.region q (if same_region f.region r then place_in config past node f else Some 0)
 
 -- ---- who carries a request
 
@@ -132,13 +124,13 @@ abbrev pub asked_key : Trace → FaceId → Request → Option (List ℕ)
 asked_key past face r = option_and_then (λ (f : Face). allowed_key f.denied (says r.wire f)) (face_at past face.0)
 
 -- the offers of a region that pass
-abbrev pub passing : Others → Settings → Trace → FaceId → Request → List ℕ → Face → Region → List QueryTargetQabl
-passing o config past asker r q f place = filter (passes config past asker r.node f) (offers_in o config past asker r.node q place)
+abbrev pub passing : Settings → Trace → FaceId → Request → List ℕ → Face → Region → List QueryTargetQabl
+passing config past asker r q f place = filter (passes config past asker r.node f) (offers_in config past r.node f q place)
 
 -- what the target picks of the offers that pass, region by region or, where the configuration says so, the best one of all regions together; each face once
-abbrev pub picked : Others → Settings → Trace → FaceId → Request → List ℕ → Face → List QueryTargetQabl
-picked o config past asker r q f = values_of (with_offers [] (by_target config.best r.target (map (passing o config past asker r q f) (regions config))))
+abbrev pub picked : Settings → Trace → FaceId → Request → List ℕ → Face → List QueryTargetQabl
+picked config past asker r q f = values_of (with_offers [] (by_target config.best r.target (map (passing config past asker r q f) (regions config))))
 
 -- the offers that a request is handed to: none where it says no key or asks for a denied one
-abbrev pub select : Others → Settings → Trace → FaceId → Request → List QueryTargetQabl
-select o config past asker r = option_map_or (λ (f : Face). option_map_or (λ q. picked o config past asker r q f) (asked_key past asker r) []) (face_at past asker.0) []
+abbrev pub select : Settings → Trace → FaceId → Request → List QueryTargetQabl
+select config past asker r = option_map_or (λ (f : Face). option_map_or (λ q. picked config past asker r q f) (asked_key past asker r) []) (face_at past asker.0) []
