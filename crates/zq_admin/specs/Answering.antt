@@ -1,5 +1,5 @@
 -- How the gateway's own face answers the requests that it is handed.
-use Rattle.std.specs.Prelude.{ℕ, ◌==◌, ◌&&◌, List, [], ◌∷◌, ◌++◌, Bool, true, fold, Option, Some, None, if◌then◌else◌, codes}
+use Rattle.std.specs.Prelude.{ℕ, ◌==◌, ◌&&◌, List, [], ◌∷◌, ◌++◌, Bool, true, filter, fold, Option, Some, None, if◌then◌else◌, codes}
 use Rattle.zq_message.specs.declared.message.Bound.TheVariants as bound
 use Rattle.zq_message.specs.declared.message.FaceId.{FaceId}
 use Rattle.zq_message.specs.declared.message.Message.{Message}
@@ -22,7 +22,7 @@ use Rattle.zq_machine.specs.Deciding.{is_accepted}
 use Rattle.zq_machine.specs.Handing.{Handed}
 use Rattle.zq_machine.specs.Machine.{after, state_after, step}
 use Rattle.zq_machine.specs.State.{State, opening_state}
-use Rattle.zq_admin.specs.Entries.{Entry, entries_met, sources_words}
+use Rattle.zq_admin.specs.Entries.{Entry, entries, is_met, sources_words}
 
 -- ---- the own face
 
@@ -120,14 +120,22 @@ abbrev pub first_asked : FaceId → List Handed → Option Request
 first_asked own [] = None
 first_asked own (h ∷ hs) = or_later (asked_by own h) (first_asked own hs)
 
--- the entries that are asked for: none by a number
+-- those of these entries that the request asks for: none by a number
+abbrev pub asked_among : Request → List Entry → List Entry
+asked_among r es = if (r.wire.scope == 0) && is_key r.wire.suffix then filter (is_met r.wire.suffix) es else []
+
+-- the same, if there is a request
+abbrev pub due_among : Option Request → List Entry → List Entry
+due_among None es = []
+due_among (Some r) es = asked_among r es
+
+-- the entries that are asked for
 abbrev pub entries_asked : Request → State → List Entry
-entries_asked r s = if (r.wire.scope == 0) && is_key r.wire.suffix then entries_met r.wire.suffix s else []
+entries_asked r s = asked_among r (entries s)
 
 -- the entries that are asked for, if any are
 abbrev pub entries_due : Option Request → State → List Entry
-entries_due None s = []
-entries_due (Some r) s = entries_asked r s
+entries_due o s = due_among o (entries s)
 
 -- what the own face answers to a request, if there is one, by these entries
 abbrev pub answered : FaceId → Option Request → Made → List Entry → Made

@@ -7,14 +7,13 @@ use Rattle.zq_key.specs.Key.{is_key}
 use Rattle.zq_io.specs.declared.transfer.TheConstants.{LIMIT}
 use Rattle.zq_io.specs.Streams.{AppendsFront}
 use Rattle.zq_lines.specs.Split.{lines_of}
-use Rattle.zq_machine.specs.Machine.{state_after}
-use Rattle.zq_machine.specs.State.{opening_state}
 use Rattle.zq_script.specs.Script.{script_of}
 use Rattle.zq_script.specs.Running.{IsEnd, first_part}
 use Rattle.zq_script.specs.declared.script.Script.{Script}
 use Rattle.zq_script.specs.declared.running.Status.{Status}
 use Rattle.zq_script.specs.declared.running.Status.TheVariants as status
-use Rattle.zq_admin.specs.Entries.{entries_lines, entries_met}
+use Rattle.zq_admin.specs.Entries.{entries_lines}
+use Rattle.zq_admin.specs.Traced.{entries_after}
 
 -- the key of the words `list KEY`, where it is one
 abbrev pub asked_of : List (List ℕ) → Option (List ℕ)
@@ -23,9 +22,9 @@ asked_of (word ∷ []) = None
 asked_of (word ∷ key ∷ []) = if bytes_eq word (codes "list") && is_key key then Some key else None
 asked_of (word ∷ key ∷ other ∷ words) = None
 
--- the lines of the entries that meet the key, once the calls of the script are made
+-- the lines of the entries of the script's calls that meet the key
 abbrev pub listing : List ℕ → Script → List ℕ
-listing key s = entries_lines (entries_met key (state_after (opening_state s.config) (first_part s.parts)))
+listing key s = entries_lines (entries_after s.config (first_part s.parts) key)
 
 -- what is printed for a script, or for the first bad line
 abbrev pub listing_print : List ℕ → Result Script ℕ → List ℕ

@@ -3,6 +3,7 @@ ghost use Rattle.std.specs.Prelude.{◌≡◌, ◌+◌, ◌≤◌, ◌<◌, [], 
 ghost use Rattle.std.specs.Vec.{vec_capacity, vec_len};
 ghost use Rattle.zq_admin.specs.Admin.{AnswersStep, Calls, IsAsked, RefusesNew};
 ghost use Rattle.zq_admin.specs.Answering.{first_asked, own_state};
+ghost use Rattle.zq_admin.specs.Traced.{AsksTraced};
 
 use crate::answering::{Asked, Begun, answer, put_step};
 use crate::asking::{entries_asked, first_asked};
@@ -135,8 +136,10 @@ impl Admin {
     /// that meets the request's key, in order, each reported as sent, and by its final. A reply that no number
     /// is left for ends them, and the final follows it. `OutOfMemory` where the call itself found no memory,
     /// and then nothing changed; `Cut` where the list or a reply found none.
+    #[tactic(auto, using(crate::proofs::Traced::asks_traced))]
     pub fn call(&mut self, call: &Call) -> Result<StepList, AdminRefusal>
-        ensures { Calls self.old self.new call.now result }
+        ensures calls { Calls self.old self.new call.now result }
+        ensures traced { AsksTraced self.old.0 self.old.1 call.now }
     {
         let Ok(begun) = begin(self.alloc) else {
             return Err(AdminRefusal::OutOfMemory);

@@ -1,6 +1,7 @@
 //! The entries whose keys meet a key.
 ghost use Rattle.std.specs.Prelude.{◌≡◌, ◌++◌, IfOk, OnOk, filter};
 ghost use Rattle.zq_admin.specs.Entries.{AreInOrder, entries_met, entries_under, is_met};
+ghost use Rattle.zq_admin.specs.Traced.{AreTraced};
 
 use crate::fronts::{behind, front};
 use std::alloc::Global;
@@ -66,6 +67,7 @@ fn entries_met(alloc: Global, gateway: &Gateway, key: &Key) -> Result<AdminList,
 pub fn list(alloc: Global, gateway: &Gateway, key: &Key) -> Result<AdminList, OutOfMemory>
     ensures entries { IfOk result (λ l. l ≡ entries_met key.now gateway.now) }
     ensures ordered { IfOk result AreInOrder }
+    ensures traced { IfOk result (AreTraced key.now gateway.now) }
 {
     entries_met(alloc, gateway, key)
 }

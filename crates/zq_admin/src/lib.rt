@@ -10,6 +10,7 @@
 //! - `answering`: how it answers
 //! - `refusal`: why a view gave no answer
 //! - `admin`: a gateway with a face of its own
+//! - `laws`: what the entries are by the calls of a run
 #![tactic(auto)]
 
 pub mod admin;
@@ -18,6 +19,7 @@ mod asking;
 pub mod entries;
 mod fronts;
 mod gathering;
+pub mod laws;
 mod lines;
 mod opening;
 pub mod refusal;

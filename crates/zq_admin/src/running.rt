@@ -3,13 +3,14 @@ ghost use Rattle.std.specs.Prelude.{◌≡◌, ◌≢◌, ◌≤◌, ◌↔◌, 
 ghost use Rattle.std.specs.Io.KnownBytes.{IsAtEnd};
 ghost use Rattle.zq_key.specs.Key.{is_key as key_of};
 ghost use Rattle.zq_lines.specs.Split.{lines_of};
-ghost use Rattle.zq_script.specs.Running.{EndsWell, IsEnd, IsFit, wrote};
+ghost use Rattle.zq_script.specs.Running.{EndsWell, IsEnd, IsFit, first_part, wrote};
 ghost use Rattle.zq_script.specs.Script.{script_of};
 ghost use Rattle.zq_admin.specs.Running.{Lists, asked_of, listing, print_in};
+ghost use Rattle.zq_admin.specs.Traced.{entries_after};
 ghost use Rattle.zq_io.specs.Streams.{Rose};
 ghost use Rattle.zq_io.specs.declared.transfer.TheConstants.{LIMIT};
 
-use crate::entries::list;
+use crate::entries::{AdminList, list};
 use crate::gathering::gateway_after;
 use crate::lines::print_entries;
 use std::alloc::Global;
@@ -33,19 +34,33 @@ fn asked_of(words: &[Text]) -> Option<&str>
     }
 }
 
-/// The lines of the entries that meet the key, once the calls of the script are made.
+/// The calls of the script.
+fn first_calls(script: &Script) -> &[Call]
+    ensures { result.now ≡ first_part script.now.parts }
+{
+    let none: &[Call] = &[];
+    match script.parts.as_slice() {
+        [first, ..] => first.as_slice(),
+        [] => none,
+    }
+}
+
+/// The entries of the script's calls whose keys meet the key.
+fn entries_of(alloc: Global, key: &Key, script: &Script) -> Result<AdminList, OutOfMemory>
+    ensures { IfOk result (λ l. l ≡ entries_after script.now.config (first_part script.now.parts) key.now) }
+{
+    let gateway = gateway_after(alloc, &script.config, first_calls(script))?;
+    let found = list(alloc, &gateway, key);
+    drop(gateway);
+    found
+}
+
+/// The lines of the entries of the script's calls whose keys meet the key.
 fn print_listing(alloc: Global, key: &Key, script: &Script) -> Result<Bytes, OutOfMemory>
     ensures { IfOk result (λ b. b ≡ listing key.now script.now) }
 {
-    let none: &[Call] = &[];
-    let calls = match script.parts.as_slice() {
-        [first, ..] => first.as_slice(),
-        [] => none,
-    };
-    let gateway = gateway_after(alloc, &script.config, calls)?;
-    let found = list(alloc, &gateway, key);
-    drop(gateway);
-    print_entries(alloc, found?.as_slice())
+    let found = entries_of(alloc, key, script)?;
+    print_entries(alloc, found.as_slice())
 }
 
 /// What is printed for the bytes, and the status where the print is taken.
