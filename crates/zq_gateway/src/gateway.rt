@@ -23,6 +23,7 @@ mod deadline;
 use crate::tables::Tables;
 use std::alloc::Global;
 use std::marker::Model;
+use zq_hat::hat::Hat;
 use zq_hat::queriers::all_queriers;
 use zq_hat::queryables::all_queryables;
 use zq_hat::sources::{Source, SourceList};
@@ -33,6 +34,7 @@ use zq_machine::config::Config;
 use zq_machine::handed::Handed;
 use zq_route::gateways::Gateways;
 use zq_strategy::types::{FinalMark, Network, NodeIds};
+use zq_tables::RegionMap;
 
 /// What carries queries between faces. Whatever it keeps, calls made it of a new gateway's, so that
 /// all that holds of every run holds of it.
@@ -285,6 +287,13 @@ impl Gateway {
         ensures { result.now ≡ self.now.core.config }
     {
         self.tables.config()
+    }
+
+    /// The hat of each region.
+    pub fn hats(&self) -> &RegionMap<Hat>
+        ensures { result.now ≡ self.now.core.hats }
+    {
+        self.tables.hats()
     }
 
     /// The gateway's own id.
