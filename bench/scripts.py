@@ -71,6 +71,18 @@ def timeouts(requests=66_665):
         yield f'sent {i}'
 
 
+def again(requests=200_000, asked=1_000, declared=100_000):
+    """Twenty faces declare keys, of which each third has a `*`, and ask again and again on some of them."""
+    def name(n):
+        return f'h{n // 10}/{"*" if n % 3 == 2 else f"r{n // 10}"}/t{n % 10}'
+
+    yield from faces(20)
+    for n in range(declared):
+        yield f'queryable {n % 20} {n} 0:s:{name(n)} {"cp"[n % 2]} 0 0'
+    for i in range(requests):
+        yield f'ask {i % 20} {i} 0:s:{name(i * 7919 % asked)} {("all", "complete", "best")[i // 3 % 3]} - 0 0 - 0'
+
+
 # What one more costs: of each pair the first script has so many, and the second the same and CALLS more
 
 CALLS = 100_000
@@ -112,6 +124,20 @@ def declared_and_asked(count):
     yield from declared(count)
     for i in range(CALLS):
         yield f'ask 1 {i} 0:s:{key(i * 7919 % count)} all - 0 0 - 0'
+
+
+def asked_once(count):
+    """So many keys of one face, each of which is asked for once, so that what is offered on it is kept."""
+    yield from declared(count)
+    for n in range(count):
+        yield f'ask 1 {n} 0:s:{key(n)} all - 0 0 - 0'
+
+
+def asked_once_and_declared(count):
+    yield from asked_once(count)
+    for n in range(CALLS // 4):
+        yield f'queryable 0 {count + n} 0:s:{key(count + n)} c 0 0'
+        yield f'unqueryable 0 {count + n} - 0'
 
 
 def on_one_key(count):

@@ -41,7 +41,7 @@ impl Model for Admin {
 
     ghost Value = { Seat };
 
-    ghost view = { λ a. (a.own, a.gateway) };
+    ghost view = { λ a. (a.own, a.gateway.state) };
 }
 
 /// Room for the step of a call and for a final.
@@ -65,7 +65,7 @@ fn asked_in(
     step: &Step,
 ) -> Option<(u32, Result<AdminList, OutOfMemory>)>
     ensures none { IfNone result (first_asked own step.now.handed ≡ None) }
-    ensures some { IfSome result (λ a. IsAsked gateway.now (first_asked own step.now.handed) a.0 a.1) }
+    ensures some { IfSome result (λ a. IsAsked gateway.now.state (first_asked own step.now.handed) a.0 a.1) }
 {
     match first_asked(own, step.handed.as_slice()) {
         Some(request) => Some((request.id, entries_asked(alloc, gateway, request))),
@@ -85,7 +85,7 @@ fn answer_step(
     requires places { vec_len begun.steps + 2 ≤ vec_capacity begun.steps }
     requires empty { begun.room.items ≡ [] }
     requires room { vec_len begun.room < vec_capacity begun.room }
-    ensures { AnswersStep own step gateway.old result gateway.new }
+    ensures { AnswersStep own step gateway.old.state result gateway.new.state }
 {
     let asked = asked_in(alloc, gateway, own, &step);
     let Begun { steps, room } = begun;

@@ -68,8 +68,8 @@ fn step_of(given: Result<Option<Handed>, Refusal>, room: Vec<Handed>) -> Step
 fn final_step(gateway: &mut Gateway, asked: Asked, room: Vec<Handed>) -> Step
     requires empty { room.items ≡ [] }
     requires place { vec_len room < vec_capacity room }
-    ensures step { result ≡ step gateway.old (call.ResponseFinal asked.own asked.rid) }
-    ensures after { gateway.new ≡ after gateway.old (call.ResponseFinal asked.own asked.rid) }
+    ensures step { result ≡ step gateway.old.state (call.ResponseFinal asked.own asked.rid) }
+    ensures after { gateway.new.state ≡ after gateway.old.state (call.ResponseFinal asked.own asked.rid) }
 {
     step_of(gateway.send_response_final(asked.own, asked.rid), room)
 }
@@ -78,8 +78,8 @@ fn final_step(gateway: &mut Gateway, asked: Asked, room: Vec<Handed>) -> Step
 fn sent_step(gateway: &mut Gateway, number: u64, room: Vec<Handed>) -> Step
     requires empty { room.items ≡ [] }
     requires place { vec_len room < vec_capacity room }
-    ensures step { result ≡ step gateway.old (call.Sent number) }
-    ensures after { gateway.new ≡ after gateway.old (call.Sent number) }
+    ensures step { result ≡ step gateway.old.state (call.Sent number) }
+    ensures after { gateway.new.state ≡ after gateway.old.state (call.Sent number) }
 {
     step_of(gateway.sent(number), room)
 }
@@ -130,9 +130,9 @@ fn report(
     requires empty { room.items ≡ [] }
     requires room { vec_len room < vec_capacity room }
     ensures place { vec_len steps.new < vec_capacity steps.new }
-    ensures ok { IfOk result (λ b. record { steps = steps.new.items; state = gateway.new; going = b } ≡ with_reported (going_on steps.old.items gateway.old) call.now) }
+    ensures ok { IfOk result (λ b. record { steps = steps.new.items; state = gateway.new.state; going = b } ≡ with_reported (going_on steps.old.items gateway.old.state) call.now) }
     ensures none { OnErr result (steps.new.items ≡ steps.old.items) }
-    ensures still { OnErr result (gateway.new ≡ gateway.old) }
+    ensures still { OnErr result (gateway.new.state ≡ gateway.old.state) }
 {
     let step = gateway.call(call)?;
     let outcome = step.outcome;
@@ -162,9 +162,9 @@ fn reply(
 ) -> Result<bool, OutOfMemory>
     requires { vec_len steps.old < vec_capacity steps.old }
     ensures place { vec_len steps.new < vec_capacity steps.new }
-    ensures ok { IfOk result (λ b. record { steps = steps.new.items; state = gateway.new; going = b } ≡ with_reply asked.own asked.rid (going_on steps.old.items gateway.old) entry) }
+    ensures ok { IfOk result (λ b. record { steps = steps.new.items; state = gateway.new.state; going = b } ≡ with_reply asked.own asked.rid (going_on steps.old.items gateway.old.state) entry) }
     ensures none { OnErr result (steps.new.items ≡ steps.old.items) }
-    ensures still { OnErr result (gateway.new ≡ gateway.old) }
+    ensures still { OnErr result (gateway.new.state ≡ gateway.old.state) }
 {
     let (key, sources) = entry;
     steps.reserve(3)?;
@@ -183,8 +183,8 @@ fn replies(
 ) -> Result<(), OutOfMemory>
     requires { vec_len steps.old < vec_capacity steps.old }
     ensures place { vec_len steps.new < vec_capacity steps.new }
-    ensures ok { OnOk result (AreMade (with_replies asked.own asked.rid (going_on steps.old.items gateway.old) entries) steps.new.items gateway.new) }
-    ensures cut { OnErr result (AreCut (with_replies asked.own asked.rid (going_on steps.old.items gateway.old)) entries steps.new.items gateway.new) }
+    ensures ok { OnOk result (AreMade (with_replies asked.own asked.rid (going_on steps.old.items gateway.old.state) entries) steps.new.items gateway.new.state) }
+    ensures cut { OnErr result (AreCut (with_replies asked.own asked.rid (going_on steps.old.items gateway.old.state)) entries steps.new.items gateway.new.state) }
 {
     let mut going = true;
     for entry in entries.into_vec() {
@@ -200,8 +200,8 @@ fn ended(gateway: &mut Gateway, asked: Asked, begun: Begun) -> StepList
     requires place { vec_len begun.steps < vec_capacity begun.steps }
     requires empty { begun.room.items ≡ [] }
     requires room { vec_len begun.room < vec_capacity begun.room }
-    ensures steps { result ≡ begun.steps.items ++ step gateway.old (call.ResponseFinal asked.own asked.rid) ∷ [] }
-    ensures after { gateway.new ≡ after gateway.old (call.ResponseFinal asked.own asked.rid) }
+    ensures steps { result ≡ begun.steps.items ++ step gateway.old.state (call.ResponseFinal asked.own asked.rid) ∷ [] }
+    ensures after { gateway.new.state ≡ after gateway.old.state (call.ResponseFinal asked.own asked.rid) }
 {
     let Begun { steps, room } = begun;
     let mut steps = steps;
@@ -220,8 +220,8 @@ fn answered(
     requires place { vec_len begun.steps < vec_capacity begun.steps }
     requires empty { begun.room.items ≡ [] }
     requires room { vec_len begun.room < vec_capacity begun.room }
-    ensures ok { OnOk result.0 (AreMade (with_answer asked.own asked.rid (going_on begun.steps.items gateway.old) entries) result.1 gateway.new) }
-    ensures cut { OnErr result.0 (AreCut (with_answer asked.own asked.rid (going_on begun.steps.items gateway.old)) entries result.1 gateway.new) }
+    ensures ok { OnOk result.0 (AreMade (with_answer asked.own asked.rid (going_on begun.steps.items gateway.old.state) entries) result.1 gateway.new.state) }
+    ensures cut { OnErr result.0 (AreCut (with_answer asked.own asked.rid (going_on begun.steps.items gateway.old.state)) entries result.1 gateway.new.state) }
 {
     let Begun { steps, room } = begun;
     let mut steps = steps;
@@ -253,7 +253,7 @@ pub fn answer(
     requires place { vec_len begun.steps < vec_capacity begun.steps }
     requires empty { begun.room.items ≡ [] }
     requires room { vec_len begun.room < vec_capacity begun.room }
-    ensures { (all : List Entry) → IfOk found (λ l. l ≡ all) → Answers (with_answer asked.own asked.rid (going_on begun.steps.items gateway.old)) all result gateway.new }
+    ensures { (all : List Entry) → IfOk found (λ l. l ≡ all) → Answers (with_answer asked.own asked.rid (going_on begun.steps.items gateway.old.state)) all result gateway.new.state }
 {
     let Ok(entries) = found else {
         let steps = ended(gateway, asked, begun);

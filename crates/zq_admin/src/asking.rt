@@ -42,7 +42,7 @@ pub fn entries_asked(
     gateway: &Gateway,
     request: &Request,
 ) -> Result<AdminList, OutOfMemory>
-    ensures { IfOk result (λ l. l ≡ entries_asked request.now gateway.now) }
+    ensures { IfOk result (λ l. l ≡ entries_asked request.now gateway.now.state) }
 {
     if request.wire.scope != 0 {
         return Ok(Items::new(alloc));

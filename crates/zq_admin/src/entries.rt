@@ -35,7 +35,7 @@ fn add_met(
 
 /// The entries whose keys meet the key.
 fn entries_met(alloc: Global, gateway: &Gateway, key: &Key) -> Result<AdminList, OutOfMemory>
-    ensures { IfOk result (λ l. l ≡ entries_met key.now gateway.now) }
+    ensures { IfOk result (λ l. l ≡ entries_met key.now gateway.now.state) }
 {
     let own = Source {
         zid: gateway.zid(),
@@ -65,9 +65,9 @@ fn entries_met(alloc: Global, gateway: &Gateway, key: &Key) -> Result<AdminList,
 /// to hear of a key, and under `@/ZID/MODE/queryable/KEY` who declared it, as in zenoh's administration
 /// space. ZID is the gateway's own id in decimal, and MODE the mode of North.
 pub fn list(alloc: Global, gateway: &Gateway, key: &Key) -> Result<AdminList, OutOfMemory>
-    ensures entries { IfOk result (λ l. l ≡ entries_met key.now gateway.now) }
+    ensures entries { IfOk result (λ l. l ≡ entries_met key.now gateway.now.state) }
     ensures ordered { IfOk result AreInOrder }
-    ensures traced { IfOk result (AreTraced key.now gateway.now) }
+    ensures traced { IfOk result (AreTraced key.now gateway.now.state) }
 {
     entries_met(alloc, gateway, key)
 }

@@ -11,7 +11,7 @@ use zq_machine::config::Config;
 
 /// A gateway on which the calls were made, one after another.
 pub fn gateway_after(alloc: Global, config: &Config, calls: &[Call]) -> Result<Gateway, OutOfMemory>
-    ensures { IfOk result (λ g. g ≡ state_after (opening_state config.now) calls.now) }
+    ensures { IfOk result (λ g. g.state ≡ state_after (opening_state config.now) calls.now) }
 {
     let mut gateway = Gateway::new(alloc, config)?;
     for call in calls {

@@ -20,13 +20,14 @@ pub mod entries;
 mod fronts;
 mod gathering;
 pub mod laws;
-mod lines;
+pub mod lines;
 mod opening;
 pub mod refusal;
 pub mod running;
 
 pub use admin::Admin;
 pub use entries::{AdminList, list};
+pub use lines::print_entries;
 pub use refusal::AdminRefusal;
 pub use running::admin_run;
 pub use zq_script::{MemorySink, MemorySource, ReadSource, Status, WriteSink};

@@ -51,7 +51,7 @@ fn own_declaration(alloc: Global, own: FaceId, config: &Config) -> Result<Call, 
 
 /// A gateway with its own face, which has declared its queryable.
 pub fn opened(alloc: Global, config: &Config, own: FaceId) -> Result<Gateway, OutOfMemory>
-    ensures { IfOk result (λ g. g ≡ own_state own config.now) }
+    ensures { IfOk result (λ g. g.state ≡ own_state own config.now) }
 {
     let mut gateway = Gateway::new(alloc, config)?;
     gateway.call(&own_opening(alloc, config))?;

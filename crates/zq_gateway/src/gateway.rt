@@ -27,6 +27,7 @@ use crate::tables::Tables;
 use std::alloc::Global;
 use std::marker::Model;
 use zq_dispatcher::hats::is_region;
+use zq_hat::hat::Hat;
 use zq_hat::queriers::all_queriers;
 use zq_hat::queryables::all_queryables;
 use zq_hat::sources::{Source, SourceList};
@@ -38,6 +39,7 @@ use zq_machine::config::Config;
 use zq_machine::handed::Handed;
 use zq_route::gateways::Gateways;
 use zq_strategy::types::{FinalMark, Network, NodeIds};
+use zq_tables::RegionMap;
 
 /// What carries queries between faces. Whatever its tables keep, calls made it of a new gateway's, so that
 /// all that holds of every run holds of it; and what is kept of what a region offers is what it offers now.
@@ -343,6 +345,13 @@ impl Gateway {
         ensures { result.now ≡ self.now.state.core.config }
     {
         self.tables.config()
+    }
+
+    /// The hat of each region.
+    pub fn hats(&self) -> &RegionMap<Hat>
+        ensures { result.now ≡ self.now.state.core.hats }
+    {
+        self.tables.hats()
     }
 
     /// The gateway's own id.

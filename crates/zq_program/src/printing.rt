@@ -36,8 +36,8 @@ fn push_calls(out: &mut Vec<u8>, calls: &[Call]) -> Result<(), AllocError>
 
 /// Makes a call, and writes its step.
 fn push_answer(out: &mut Vec<u8>, gateway: &mut Gateway, call: &Call) -> Result<(), OutOfMemory>
-    ensures print { OnOk result (out.new.items ≡ out.old.items ++ step_words (step gateway.old call.now)) }
-    ensures after { OnOk result (gateway.new ≡ after gateway.old call.now) }
+    ensures print { OnOk result (out.new.items ≡ out.old.items ++ step_words (step gateway.old.state call.now)) }
+    ensures after { OnOk result (gateway.new.state ≡ after gateway.old.state call.now) }
 {
     let step = gateway.call(call)?;
     push_step(out, &step)?;
@@ -46,7 +46,7 @@ fn push_answer(out: &mut Vec<u8>, gateway: &mut Gateway, call: &Call) -> Result<
 
 /// Writes the steps that the gateway answers to calls, one after another. No step is kept once it is written.
 fn push_answers(out: &mut Vec<u8>, gateway: &mut Gateway, calls: &[Call]) -> Result<(), OutOfMemory>
-    ensures { OnOk result (out.new.items ≡ out.old.items ++ steps_words (steps_from gateway.old calls.now)) }
+    ensures { OnOk result (out.new.items ≡ out.old.items ++ steps_words (steps_from gateway.old.state calls.now)) }
 {
     for call in calls {
         push_answer(out, gateway, call)?;

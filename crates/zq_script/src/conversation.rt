@@ -36,16 +36,17 @@ impl Drop for Conversation {
 }
 
 impl Model for Conversation {
+    ghost use Rattle.std.specs.Option.{option_map};
     ghost use Rattle.zq_script.specs.Conversation.{Spoken};
 
     ghost Value = { Spoken };
 
-    ghost view = { λ s. record { state = s.gateway; said = s.said; start = s.start } };
+    ghost view = { λ s. record { state = option_map (λ g. g.state) s.gateway; said = s.said; start = s.start } };
 }
 
 /// A gateway of what a line `config` said, with these counters and this choice.
 fn opened(alloc: Global, said: &Said, counters: Counters, best: Best) -> Result<Gateway, Stop>
-    ensures gateway { IfOk result (λ g. (c : _) × (configured said.now counters best ≡ Ok c) × (g ≡ opening_state c)) }
+    ensures gateway { IfOk result (λ g. (c : _) × (configured said.now counters best ≡ Ok c) × (g.state ≡ opening_state c)) }
     ensures bad { result ≡ Err stop.Bad → (n : _) × (configured said.now counters best ≡ Err n) }
 {
     match configured(alloc, said, counters, best) {

@@ -234,8 +234,8 @@ fn count_call(
     number: u32,
 ) -> Result<(), OutOfMemory>
     requires { IsBelow (number * 2 ^ 64) counts.old }
-    ensures after { OnOk result (gateway.new ≡ after gateway.old (load_call number)) }
-    ensures counted { OnOk result (counts.new ≡ plus counts.old (count (step gateway.old (load_call number)).handed)) }
+    ensures after { OnOk result (gateway.new.state ≡ after gateway.old.state (load_call number)) }
+    ensures counted { OnOk result (counts.new ≡ plus counts.old (count (step gateway.old.state (load_call number)).handed)) }
     ensures below { OnOk result (IsBelow ((number + 1) * 2 ^ 64) counts.new) }
 {
     let call = load_call(alloc, number)?;
@@ -246,7 +246,7 @@ fn count_call(
 
 // What the load's calls hand, made on a new gateway.
 fn count_on(alloc: Global, gateway: &mut Gateway, amount: u16) -> Result<Counts, OutOfMemory>
-    requires { gateway.old ≡ opening_state load_config }
+    requires { gateway.old.state ≡ opening_state load_config }
     ensures { IfOk result (λ c. c ≡ count (handed_over (steps load_config (load_calls amount)))) }
 {
     let mut counts = Counts::default();

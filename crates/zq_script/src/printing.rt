@@ -27,9 +27,9 @@ use zq_machine::config::Config;
 /// Makes a call, and prints its step.
 #[tactic(auto, using(zq_lines::proofs::Shown::step_shows))]
 fn print_step(gateway: &mut Gateway, print: &mut Vec<u8>, call: &Call) -> Result<(), OutOfMemory>
-    ensures print { OnOk result (print.new.items ≡ print.old.items ++ step_words (step gateway.old call.now)) }
-    ensures fits { OnOk result (FitsStep (step gateway.old call.now)) }
-    ensures after { OnOk result (gateway.new ≡ after gateway.old call.now) }
+    ensures print { OnOk result (print.new.items ≡ print.old.items ++ step_words (step gateway.old.state call.now)) }
+    ensures fits { OnOk result (FitsStep (step gateway.old.state call.now)) }
+    ensures after { OnOk result (gateway.new.state ≡ after gateway.old.state call.now) }
 {
     let step = gateway.call(call)?;
     step_fits(&step);
@@ -45,7 +45,7 @@ fn print_line(
     print: &mut Vec<u8>,
     line: &[u8],
 ) -> Result<bool, OutOfMemory>
-    ensures called { result ≡ Ok true → Prints (script_call false line.now) gateway.old print.old.items gateway.new print.new.items }
+    ensures called { result ≡ Ok true → Prints (script_call false line.now) gateway.old.state print.old.items gateway.new.state print.new.items }
     ensures bad { result ≡ Ok false → script_call false line.now ≡ None }
 {
     match script_call(alloc, false, line) {
@@ -67,8 +67,8 @@ fn print_lines(
     bytes: &[u8],
 ) -> Result<Bytes, ScriptRefusal>
     requires { first + length bytes.now < 2 ^ 64 }
-    ensures print { Gives result (printed_by gateway.old (parts_from first false 0 (lines_of bytes.now))) }
-    ensures fits { IfOk result (λ _. FitsRun gateway.old (parts_from first false 0 (lines_of bytes.now))) }
+    ensures print { Gives result (printed_by gateway.old.state (parts_from first false 0 (lines_of bytes.now))) }
+    ensures fits { IfOk result (λ _. FitsRun gateway.old.state (parts_from first false 0 (lines_of bytes.now))) }
 {
     let mut print = Vec::new(alloc);
     let mut number = first;

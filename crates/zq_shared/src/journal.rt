@@ -43,7 +43,7 @@ impl Model for Journal {
 
     ghost view = { λ j. record { config = j.config; calls = j.calls.items } };
 
-    ghost invariant = { λ j. IsStored j.config j.gateway j.calls.items j.flying (vec_len j.calls) (vec_capacity j.calls) };
+    ghost invariant = { λ j. IsStored j.config j.gateway.state j.calls.items j.flying (vec_len j.calls) (vec_capacity j.calls) };
 }
 
 /// One more, if it counts.
@@ -78,7 +78,7 @@ fn count_replies(handed: &[Handed]) -> usize
 
 /// At most how many replies are in flight once the call is made.
 fn all_flying(gateway: &Gateway, flying: usize, call: &Call) -> Result<usize, OutOfMemory>
-    ensures { IfOk result (λ n. flying + length (replies_of (step gateway.now call.now)) ≤ n) }
+    ensures { IfOk result (λ n. flying + length (replies_of (step gateway.now.state call.now)) ≤ n) }
 {
     let more = gateway.most_replies(call)?;
     flying.checked_add(more).ok_or(OutOfMemory)
@@ -86,7 +86,7 @@ fn all_flying(gateway: &Gateway, flying: usize, call: &Call) -> Result<usize, Ou
 
 /// A number of places that holds the call and a report of each reply that is in flight behind it.
 fn room_for(gateway: &Gateway, flying: usize, call: &Call) -> Result<usize, OutOfMemory>
-    ensures { IfOk result (λ room. flying + length (replies_of (step gateway.now call.now)) + 1 ≤ room) }
+    ensures { IfOk result (λ room. flying + length (replies_of (step gateway.now.state call.now)) + 1 ≤ room) }
 {
     let room = all_flying(gateway, flying, call)?;
     room.checked_add(1).ok_or(OutOfMemory)
@@ -94,9 +94,9 @@ fn room_for(gateway: &Gateway, flying: usize, call: &Call) -> Result<usize, OutO
 
 /// Performs the call, and counts the replies that it hands as flying. Where memory is lacking all is as it was.
 fn perform(gateway: &mut Gateway, flying: &mut usize, call: &Call) -> Result<Step, OutOfMemory>
-    requires few { flying.old + length (replies_of (step gateway.old call.now)) < 2 ^ 64 }
+    requires few { flying.old + length (replies_of (step gateway.old.state call.now)) < 2 ^ 64 }
     ensures performed { Performs gateway.old gateway.new call.now result }
-    ensures counted { OnOk result (flying.new ≡ flying.old + length (replies_of (step gateway.old call.now))) }
+    ensures counted { OnOk result (flying.new ≡ flying.old + length (replies_of (step gateway.old.state call.now))) }
     ensures same { OnErr result (flying.new ≡ flying.old) }
 {
     let step = gateway.call(call)?;
@@ -112,7 +112,7 @@ fn make(
     call: &Call,
 ) -> Result<Step, OutOfMemory>
     ensures performed { Performs gateway.old gateway.new call.now result }
-    ensures counted { OnOk result (flying.new ≡ flying.old + length (replies_of (step gateway.old call.now))) }
+    ensures counted { OnOk result (flying.new ≡ flying.old + length (replies_of (step gateway.old.state call.now))) }
     ensures same { OnErr result (flying.new ≡ flying.old) }
     ensures calls { calls.new.items ≡ calls.old.items }
     ensures length { vec_len calls.new ≡ vec_len calls.old }

@@ -15,7 +15,7 @@ use Rattle.zq_script.proofs.Printed.{line_read}
 use Rattle.zq_show.specs.Seen.{SeenState, no_faces}
 use Rattle.zq_show.specs.declared.entry.Entry.{Entry}
 use Rattle.zq_show.specs.declared.show.Run.{Run}
-use Rattle.zq_show.specs.Replay.{bad_by, bad_from, bad_line, bad_number, begun, calls_of, entries_from, entry_of, given, lined, next, next_of, run_by, run_of, steps_of, seen_next, seen_of, Adds, Shows}
+use Rattle.zq_show.specs.Replay.{bad_by, bad_from, bad_line, bad_number, begun, calls_of, ended_by, ended_from, entries_from, entry_of, given, lined, next, next_of, run_by, run_of, steps_of, seen_next, seen_of, Adds, Shows}
 
 -- a call of the next line is made
 pub next_entries : (n : ℕ) (s : State) (other : SeenState) (then : State) (told : SeenState) (line : List ℕ) (lines rest : List (List ℕ)) (c : Call) (entries more whole : List Entry) → rest ≡ line ∷ lines → script_call false line ≡ Some c → then ≡ next s c → told ≡ seen_next s other c → more ≡ entries ++ entry_of s other n line c ∷ [] → entries ++ entries_from n s other rest ≡ whole → more ++ entries_from (n + 1) then told lines ≡ whole
@@ -55,6 +55,16 @@ next_unbad n s other new told line lines rest entries more whole e a i = next_ba
 pub line_bad : (n : ℕ) (line : List ℕ) (lines rest : List (List ℕ)) (whole : Option BadLine) → rest ≡ line ∷ lines → script_call false line ≡ None → bad_from n rest ≡ whole → Some (bad_line n line) ≡ whole
 line_bad n line lines rest whole e f i =
     ap (λ (o : Option Call). bad_by n line o (bad_from (n + 1) lines)) (sym f) ∙ ap (bad_from n) (sym e) ∙ i
+
+-- the calls of the lines behind the next one end as those from it on
+pub next_ended : (n : ℕ) (s : State) (other : SeenState) (new : State) (told : SeenState) (line : List ℕ) (lines rest : List (List ℕ)) (entries more : List Entry) (whole : State) → rest ≡ line ∷ lines → Adds n line s other entries new told more → ended_from s rest ≡ whole → ended_from new lines ≡ whole
+next_ended n s other new told line lines rest entries more whole e a i =
+    ap (λ (x : State). ended_from x lines) a.made ∙ ap (λ (o : Option Call). ended_by s o (ended_from (next_of s o) lines)) (sym a.is) ∙ ap (ended_from s) (sym e) ∙ i
+
+-- a line that is no call ends them
+pub last_ended : (s new : State) (line : List ℕ) (lines rest : List (List ℕ)) (whole : State) → rest ≡ line ∷ lines → script_call false line ≡ None → new ≡ s → ended_from s rest ≡ whole → new ≡ whole
+last_ended s new line lines rest whole e f still i =
+    still ∙ ap (λ (o : Option Call). ended_by s o (ended_from (next_of s o) lines)) (sym f) ∙ ap (ended_from s) (sym e) ∙ i
 
 -- the answers to calls, one after another
 abbrev given_all : State → List Call → List Step

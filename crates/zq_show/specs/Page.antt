@@ -5,7 +5,7 @@ use Rattle.std.specs.Fmt.{decimal}
 use Rattle.zq_show.specs.declared.page.Line.{Line}
 use Rattle.zq_show.specs.declared.page.BadLine.{BadLine}
 use Rattle.zq_show.specs.declared.page.Shown.{Shown}
-use Rattle.zq_show.specs.declared.page.TheConstants.{BAD_REST, BAD_ROOM, BEGIN, LEGEND, LINES_ROOM, LIST_ROOM}
+use Rattle.zq_show.specs.declared.page.TheConstants.{BAD_REST, BAD_ROOM, BEGIN, LEGEND, LINES_ROOM, LIST_ROOM, STANDS}
 use Rattle.zq_show.specs.declared.row.Row.{Row}
 use Rattle.zq_show.specs.Escape.{shown_in_page, shown_short}
 use Rattle.zq_show.specs.Fit.{fitted_by, room_of}
@@ -105,6 +105,10 @@ unfoldable pub scene_words : Shown → List ℕ
 scene_words shown =
     said_words (codes "<h2>Picture</h2><p>") shown.scope (codes "</p>") ++ legend_words ++ picture_words shown.lanes shown.rows ++ codes "</div>" ++ narrow_words shown.rows ++ codes "<h2>Lines</h2><ol class='lines'>"
 
+-- what stands at the end of the run, and the end of the page
+unfoldable pub end_words : List (List ℕ) → List ℕ
+end_words stands = STANDS.now ++ long_list_words LIST_ROOM stands ++ codes "</body></html>"
+
 -- the page of a run
 abbrev pub page_words : Shown → List ℕ
-page_words shown = head_words shown ++ scene_words shown ++ lines_words shown.rows shown.lines ++ bad_words shown.bad ++ codes "</ol></body></html>"
+page_words shown = head_words shown ++ scene_words shown ++ lines_words shown.rows shown.lines ++ bad_words shown.bad ++ end_words shown.stands

@@ -17,6 +17,7 @@ use Rattle.zq_script.specs.Running.{first_part}
 use Rattle.zq_script.specs.Script.{script_call}
 use Rattle.zq_script.specs.declared.script.Script.{Script}
 use Rattle.zq_show.specs.Reasons.{judged_for, no_judgement}
+use Rattle.zq_show.specs.Standing.{standing}
 use Rattle.zq_show.specs.Unreached.{unreached_for}
 use Rattle.zq_hat.specs.declared.unreached.RouterEntry.{RouterEntry}
 use Rattle.zq_show.specs.Seen.{SeenState, key_in_full, no_faces, noticed, said_in, withdrawn}
@@ -97,6 +98,16 @@ entries_from number s seen [] = []
 entries_from number s seen (line ∷ lines) =
     lined number s seen line (script_call false line) (entries_from (number + 1) (next_of s (script_call false line)) (seen_of s seen (script_call false line)) lines)
 
+-- the state before a line that is no call, or behind the later ones
+abbrev pub ended_by : State → Option Call → State → State
+ended_by s None later = s
+ended_by s (Some c) later = later
+
+-- the state behind the calls of lines, up to the first line that is no call
+abbrev pub ended_from : State → List (List ℕ) → State
+ended_from s [] = s
+ended_from s (line ∷ lines) = ended_by s (script_call false line) (ended_from (next_of s (script_call false line)) lines)
+
 -- the call of a line was made: what it gave stands behind the entries, and the gateway and what is seen of it went on
 pub record Adds (number : ℕ) (line : List ℕ) (s : State) (seen : SeenState) (entries : List Entry) (new : State) (saw : SeenState) (more : List Entry) : Type 0 where
   pub call : Call
@@ -132,8 +143,9 @@ run_by lines (Ok head) =
       timeout = head.0.timeout;
       entries = entries_from head.2 (begun head.0) no_faces head.3;
       bad = bad_from head.2 head.3;
+      stands = standing (ended_from (begun head.0) head.3);
     }
-run_by lines (Err number) = record { head = []; timeout = 0; entries = []; bad = Some (bad_line number (first_line lines)) }
+run_by lines (Err number) = record { head = []; timeout = 0; entries = []; bad = Some (bad_line number (first_line lines)); stands = [] }
 
 -- the run of these lines: what stands before the calls, the calls with what they gave, and the first bad line
 abbrev pub run_of : List (List ℕ) → Run

@@ -77,6 +77,7 @@ shown_of run request =
       faces = face_lines run.entries;
       lines = lines_shown request (rows_shown request run.timeout run.entries) run.entries;
       bad = run.bad;
+      stands = run.stands;
       scope = scope_words request (length run.entries);
       lanes = lanes_shown run.entries (take ROWS (rows_shown request run.timeout run.entries));
       rows = take ROWS (rows_shown request run.timeout run.entries);

@@ -1,37 +1,39 @@
-//! The gateway of a run, with a look at its hats.
-ghost use Rattle.std.specs.Prelude.{◌≡◌, IfOk, OnOk};
+//! The gateway of a run, with a look at its hats and at what stands.
+ghost use Rattle.std.specs.Prelude.{◌≡◌, IfOk, OnOk, codes};
 ghost use Rattle.zq_show.specs.Replay.{begun, given, next};
+ghost use Rattle.zq_show.specs.Standing.{standing};
 
+use crate::page::BytesList;
+use crate::replay::lines;
 use std::alloc::Global;
 use std::marker::Model;
-use zq_gateway::tables::Tables;
+use zq_admin::{list, print_entries};
+use zq_gateway::Gateway;
 use zq_hat::Hat;
 use zq_key::memory::OutOfMemory;
 use zq_key::message::Zid;
+use zq_key::{Key, KeyError};
 use zq_machine::call::{Call, Step};
 use zq_machine::config::Config;
 use zq_message::RegionMap;
 
 /// The gateway of a run. Calls made it of a new one, so that all that holds of runs holds of it.
 pub struct Machine {
-    tables: Tables,
+    gateway: Gateway,
 }
 
 impl Drop for Machine {
     fn drop(self) {
-        let Machine { tables } = self;
+        let Machine { gateway } = self;
     }
 }
 
 impl Model for Machine {
     ghost use Rattle.zq_machine.specs.State.{State};
-    ghost use Rattle.zq_gateway.specs.Making.{IsReached};
 
     ghost Value = { State };
 
-    ghost view = { λ m. m.tables };
-
-    ghost invariant = { λ m. IsReached m.tables };
+    ghost view = { λ m. m.gateway.state };
 }
 
 impl Machine {
@@ -40,7 +42,7 @@ impl Machine {
         ensures { IfOk result (λ m. m ≡ begun config.now) }
     {
         Ok(Machine {
-            tables: Tables::new(alloc, config)?,
+            gateway: Gateway::new(alloc, config)?,
         })
     }
 
@@ -49,27 +51,48 @@ impl Machine {
         ensures step { IfOk result (λ t. t ≡ given self.old call.now) }
         ensures after { OnOk result (self.new ≡ next self.old call.now) }
     {
-        self.tables.call(call)
+        self.gateway.call(call)
     }
 
     /// The hat of each region.
     pub fn hats(&self) -> &RegionMap<Hat>
         ensures { result.now ≡ self.now.core.hats }
     {
-        self.tables.hats()
+        self.gateway.hats()
     }
 
     /// The configuration.
     pub fn config(&self) -> &Config
         ensures { result.now ≡ self.now.core.config }
     {
-        self.tables.config()
+        self.gateway.config()
     }
 
     /// The gateway's own id.
     pub fn own(&self) -> Zid
         ensures { result ≡ self.now.core.config.zid }
     {
-        self.tables.config().zid()
+        self.gateway.zid()
+    }
+
+    /// What stands: the entries of the administration view, each as a line.
+    #[tactic(auto, unfolding(crate::specs::Standing::standing))]
+    pub fn standing(&self, alloc: Global) -> Result<BytesList, OutOfMemory>
+        ensures { IfOk result (λ l. l ≡ standing self.now) }
+    {
+        let key = all_entries(alloc)?;
+        let entries = list(alloc, &self.gateway, &key)?;
+        lines(alloc, print_entries(alloc, entries.as_slice())?.as_slice())
+    }
+}
+
+/// The key that all entries meet but those of keys with a verbatim chunk.
+fn all_entries(alloc: Global) -> Result<Key, OutOfMemory>
+    ensures { IfOk result (λ k. k ≡ codes "@/**") }
+{
+    match Key::new(alloc, "@/**") {
+        Ok(key) => Ok(key),
+        Err(KeyError::Invalid) => unreachable!(),
+        Err(KeyError::OutOfMemory) => Err(OutOfMemory),
     }
 }

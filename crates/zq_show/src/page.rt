@@ -1,7 +1,7 @@
 //! The page of a run: the head, the faces, the picture, and the lines with what came of each.
 ghost use Rattle.std.specs.Prelude.{◌≡◌, ◌++◌, IfOk, OnOk};
 ghost use Rattle.zq_show.specs.Fit.{fitted_by, room_of};
-ghost use Rattle.zq_show.specs.Page.{item_words, long_list_words, answer_open, bad_line_words, bad_text_words, bad_words, begin_words, came_words, head_words, items_words, legend_words, line_number_words, line_words, lines_words, link_words, linked, list_words, notes_words, page_words, rest_of_bad, said_words, scene_words, short_words};
+ghost use Rattle.zq_show.specs.Page.{item_words, long_list_words, answer_open, bad_line_words, bad_text_words, bad_words, begin_words, came_words, end_words, head_words, items_words, legend_words, line_number_words, line_words, lines_words, link_words, linked, list_words, notes_words, page_words, rest_of_bad, said_words, scene_words, short_words};
 
 use crate::choice::{RowList, has_line};
 use crate::escape::{push_in_page, push_short};
@@ -61,6 +61,8 @@ pub struct Shown {
     pub lines: LineList,
     /// The line at which the script ends because it could not be read, if there is one.
     pub bad: Option<BadLine>,
+    /// Who declared each key and who asks to hear of it once the calls are made, each key as a line.
+    pub stands: BytesList,
     /// What the picture shows of the run, as a text.
     pub scope: Bytes,
     /// The lanes of the picture.
@@ -114,6 +116,11 @@ path{fill:none;stroke:var(--ink);stroke-width:1.5}.lane{stroke:var(--rule)}.ask{
 pub const LEGEND: &str =
     "<p class='said legend'>Time goes down. A thick arrow is a request, a dashed one a reply, a dotted one a final, a thin one a declaration. A cross at the gateway is a refusal, and one before a face what its exit did not let out. A filled bar beside a face is a request that is pending there, a hollow one a reply in flight. A rule across is a moment that came. There are at most 400 rows. At the left are the numbers of the script's lines, linked with their words below; <code>#N</code> is the number of a request in this run.</p>
 <div class='picture'>
+";
+
+/// What stands between the lines and what stands at the end of the run.
+pub const STANDS: &str = "</ol><h2>What stands at the end</h2>
+<p class='said'>Who asks to hear of each key and who declared it, by id, as <code>zq admin '@/**' FILE</code> lists it.</p>
 ";
 
 /// Writes a text of an element.
@@ -400,6 +407,16 @@ fn push_scene(alloc: Global, out: &mut Vec<u8>, shown: &Shown) -> Result<(), All
     Ok(())
 }
 
+/// Writes what stands at the end of the run, and ends the page.
+#[tactic(auto, unfolding(crate::specs::Page::end_words))]
+fn push_end(alloc: Global, out: &mut Vec<u8>, stands: &[Bytes]) -> Result<(), AllocError>
+    ensures { OnOk result (out.new.items ≡ out.old.items ++ end_words stands.now) }
+{
+    push_text(out, STANDS)?;
+    push_long_list(alloc, out, LIST_ROOM, stands)?;
+    push_text(out, "</body></html>")
+}
+
 /// The page of a run. It is whole by itself: it has no script, and loads nothing.
 pub fn page(alloc: Global, shown: &Shown) -> Result<Bytes, OutOfMemory>
     ensures { IfOk result (λ b. b ≡ page_words shown.now) }
@@ -414,6 +431,6 @@ pub fn page(alloc: Global, shown: &Shown) -> Result<Bytes, OutOfMemory>
         shown.lines.as_slice(),
     )?;
     push_bad(alloc, &mut out, &shown.bad)?;
-    push_text(&mut out, "</ol></body></html>")?;
+    push_end(alloc, &mut out, shown.stands.as_slice())?;
     Ok(Bytes::from_vec(out))
 }

@@ -3,8 +3,9 @@ ghost use Rattle.std.specs.Prelude.{◌≡◌, ◌<◌, ◌+◌, ◌^◌, [], If
 ghost use Rattle.std.specs.Option.{option_map};
 ghost use Rattle.zq_lines.specs.Split.{lines_of};
 ghost use Rattle.zq_script.specs.Script.{script_call, script_of};
-ghost use Rattle.zq_show.specs.Replay.{asking, bad_from, bad_line, begun, entries_from, entry_of, first_line, given, judgement_of, key_of, next, run_of, seen_next, unreached_of, written, Adds, Shows};
+ghost use Rattle.zq_show.specs.Replay.{asking, bad_from, bad_line, begun, ended_from, entries_from, entry_of, first_line, given, judgement_of, key_of, next, run_of, seen_next, unreached_of, written, Adds, Shows};
 ghost use Rattle.zq_show.specs.Seen.{no_faces};
+ghost use Rattle.zq_show.specs.Standing.{standing};
 
 use crate::entry::{Entry, EntryList};
 use crate::machine::Machine;
@@ -180,6 +181,7 @@ fn push_line(
 ) -> Result<bool, OutOfMemory>
     ensures called { result ≡ Ok true → Adds number line.now machine.old seen.old entries.old machine.new seen.new entries.new }
     ensures bad { result ≡ Ok false → (script_call false line.now ≡ None) × (entries.new ≡ entries.old) }
+    ensures still { result ≡ Ok false → machine.new ≡ machine.old }
 {
     match call_at(alloc, line)? {
         Some(call) => {
@@ -203,6 +205,7 @@ fn entries_from(
     requires { first + length bytes.now < 2 ^ 64 }
     ensures entries { IfOk result (λ t. t.0 ≡ entries_from first machine.old seen.old (lines_of bytes.now)) }
     ensures bad { IfOk result (λ t. t.1 ≡ bad_from first (lines_of bytes.now)) }
+    ensures after { OnOk result (machine.new ≡ ended_from machine.old (lines_of bytes.now)) }
 {
     let mut entries = Items::new(alloc);
     let mut number = first;
@@ -218,24 +221,38 @@ fn entries_from(
     Ok((entries, None))
 }
 
+/// Calls with what they gave, the line that ended them, if one did, and what stands behind them.
+#[derive(Drop)]
+struct Made {
+    entries: EntryList,
+    bad: Option<BadLine>,
+    stands: BytesList,
+}
+
 /// The calls of the lines from a new gateway of a configuration on.
 fn entries_of(
     alloc: Global,
     config: &Config,
     first: u64,
     bytes: &[u8],
-) -> Result<(EntryList, Option<BadLine>), OutOfMemory>
+) -> Result<Made, OutOfMemory>
     requires { first + length bytes.now < 2 ^ 64 }
-    ensures entries { IfOk result (λ t. t.0 ≡ entries_from first (begun config.now) no_faces (lines_of bytes.now)) }
-    ensures bad { IfOk result (λ t. t.1 ≡ bad_from first (lines_of bytes.now)) }
+    ensures entries { IfOk result (λ m. m.entries ≡ entries_from first (begun config.now) no_faces (lines_of bytes.now)) }
+    ensures bad { IfOk result (λ m. m.bad ≡ bad_from first (lines_of bytes.now)) }
+    ensures stands { IfOk result (λ m. m.stands ≡ standing (ended_from (begun config.now) (lines_of bytes.now))) }
 {
     let mut machine = Machine::new(alloc, config)?;
     let mut seen = Seen::new(alloc)?;
-    entries_from(alloc, &mut machine, &mut seen, first, bytes)
+    let (entries, bad) = entries_from(alloc, &mut machine, &mut seen, first, bytes)?;
+    Ok(Made {
+        entries,
+        bad,
+        stands: machine.standing(alloc)?,
+    })
 }
 
 /// The lines that bytes are.
-fn lines(alloc: Global, bytes: &[u8]) -> Result<BytesList, OutOfMemory>
+pub(crate) fn lines(alloc: Global, bytes: &[u8]) -> Result<BytesList, OutOfMemory>
     ensures { IfOk result (λ l. l ≡ lines_of bytes.now) }
 {
     let mut read = Items::new(alloc);
@@ -259,13 +276,14 @@ fn first_line(bytes: &[u8]) -> &[u8]
 
 /// The run of bytes of which the first line is bad.
 fn headless(alloc: Global, number: u64, bytes: &[u8]) -> Result<Run, OutOfMemory>
-    ensures { IfOk result (λ r. r ≡ record { head = []; timeout = 0; entries = []; bad = Some (bad_line number (first_line (lines_of bytes.now))) }) }
+    ensures { IfOk result (λ r. r ≡ record { head = []; timeout = 0; entries = []; bad = Some (bad_line number (first_line (lines_of bytes.now))); stands = [] }) }
 {
     Ok(Run {
         head: Items::new(alloc),
         timeout: 0,
         entries: Items::new(alloc),
         bad: Some(bad_line(alloc, number, first_line(bytes))?),
+        stands: Items::new(alloc),
     })
 }
 
@@ -278,12 +296,17 @@ pub fn run_of(alloc: Global, bytes: &[u8]) -> Result<Run, OutOfMemory>
 {
     match head_of(alloc, bytes) {
         Ok((config, head, first, rest)) => {
-            let (entries, bad) = entries_of(alloc, &config, first, rest)?;
+            let Made {
+                entries,
+                bad,
+                stands,
+            } = entries_of(alloc, &config, first, rest)?;
             Ok(Run {
                 head: lines(alloc, head.as_slice())?,
                 timeout: config.timeout(),
                 entries,
                 bad,
+                stands,
             })
         }
         Err(ScriptRefusal::BadLine(number)) => headless(alloc, number, bytes),

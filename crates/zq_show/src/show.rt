@@ -42,6 +42,8 @@ pub struct Run {
     pub entries: Items<Entry>,
     /// The line at which the script ends because it could not be read, if there is one.
     pub bad: Option<BadLine>,
+    /// Who declared each key and who asks to hear of it once the calls are made, each key as a line.
+    pub stands: BytesList,
 }
 
 /// The messages of a call, each as a text, in order.
@@ -206,6 +208,7 @@ fn shown_of(alloc: Global, run: Run, request: Option<u64>) -> Result<Shown, OutO
         timeout,
         entries,
         bad,
+        stands,
     } = run;
     let calls = entries.as_slice();
     let rows = rows_shown(alloc, request, timeout, calls)?;
@@ -214,6 +217,7 @@ fn shown_of(alloc: Global, run: Run, request: Option<u64>) -> Result<Shown, OutO
         faces: face_lines(alloc, calls)?,
         lines: lines_shown(alloc, request, rows.as_slice(), calls)?,
         bad,
+        stands,
         scope: scope(alloc, request, calls.len())?,
         lanes: lanes_shown(alloc, calls, first_rows(rows.as_slice()))?,
         rows: cut_off(rows),

@@ -48,7 +48,7 @@ impl Model for Talk {
 
     ghost Value = { Spoken };
 
-    ghost view = { λ s. record { state = s.gateway; step = s.step; print = s.print.items } };
+    ghost view = { λ s. record { state = s.gateway.state; step = s.step; print = s.print.items } };
 }
 
 /// The gateway of a configuration, before any call.

@@ -64,8 +64,8 @@ pub fn request(
     target: QueryTarget,
     now: u64,
 ) -> Result<HandedList, OutOfMemory>
-    ensures handed { IfOk result (λ l. l ≡ (step gateway.old (ask_call asker key.now target now)).handed) }
-    ensures after { OnOk result (gateway.new ≡ after gateway.old (ask_call asker key.now target now)) }
+    ensures handed { IfOk result (λ l. l ≡ (step gateway.old.state (ask_call asker key.now target now)).handed) }
+    ensures after { OnOk result (gateway.new.state ≡ after gateway.old.state (ask_call asker key.now target now)) }
 {
     let request = request_on(alloc, key, target)?;
     let step = gateway.send_request(asker, &request, now)?;
@@ -87,8 +87,8 @@ fn response_of(alloc: Global, answer: &Answer) -> Result<Response, OutOfMemory>
 
 /// A reply is reported as sent, and what that hands is put behind the rest.
 fn report(gateway: &mut Gateway, handed: &mut HandedList, number: u64) -> Result<(), OutOfMemory>
-    ensures handed { OnOk result (handed.new ≡ handed.old ++ (step gateway.old (call.Sent number)).handed) }
-    ensures after { OnOk result (gateway.new ≡ after gateway.old (call.Sent number)) }
+    ensures handed { OnOk result (handed.new ≡ handed.old ++ (step gateway.old.state (call.Sent number)).handed) }
+    ensures after { OnOk result (gateway.new.state ≡ after gateway.old.state (call.Sent number)) }
 {
     match gateway.sent(number) {
         Ok(Some(message)) => handed.push(message),
@@ -98,8 +98,8 @@ fn report(gateway: &mut Gateway, handed: &mut HandedList, number: u64) -> Result
 
 /// A storage ends, and what that hands is put behind the rest.
 fn end(gateway: &mut Gateway, handed: &mut HandedList, asked: AskedStore) -> Result<(), OutOfMemory>
-    ensures handed { OnOk result (handed.new ≡ handed.old ++ (step gateway.old (end_call asked)).handed) }
-    ensures after { OnOk result (gateway.new ≡ after gateway.old (end_call asked)) }
+    ensures handed { OnOk result (handed.new ≡ handed.old ++ (step gateway.old.state (end_call asked)).handed) }
+    ensures after { OnOk result (gateway.new.state ≡ after gateway.old.state (end_call asked)) }
 {
     match gateway.send_response_final(asked.face, asked.rid) {
         Ok(Some(message)) => handed.push(message),
@@ -114,8 +114,8 @@ fn respond(
     handed: &mut HandedList,
     answer: &Answer,
 ) -> Result<(), OutOfMemory>
-    ensures handed { OnOk result (handed.new ≡ handed.old ++ (step gateway.old (reply_call answer.now)).handed) }
-    ensures after { OnOk result (gateway.new ≡ after gateway.old (reply_call answer.now)) }
+    ensures handed { OnOk result (handed.new ≡ handed.old ++ (step gateway.old.state (reply_call answer.now)).handed) }
+    ensures after { OnOk result (gateway.new.state ≡ after gateway.old.state (reply_call answer.now)) }
 {
     let response = response_of(alloc, answer)?;
     let step = gateway.send_response(answer.asked.face, &response)?;
@@ -130,8 +130,8 @@ fn reply(
     number: u64,
     answer: &Answer,
 ) -> Result<(), OutOfMemory>
-    ensures handed { OnOk result (handed.new ≡ (handed.old ++ (step gateway.old (reply_call answer.now)).handed) ++ (step (after gateway.old (reply_call answer.now)) (call.Sent number)).handed) }
-    ensures after { OnOk result (gateway.new ≡ after (after gateway.old (reply_call answer.now)) (call.Sent number)) }
+    ensures handed { OnOk result (handed.new ≡ (handed.old ++ (step gateway.old.state (reply_call answer.now)).handed) ++ (step (after gateway.old.state (reply_call answer.now)) (call.Sent number)).handed) }
+    ensures after { OnOk result (gateway.new.state ≡ after (after gateway.old.state (reply_call answer.now)) (call.Sent number)) }
 {
     respond(alloc, gateway, handed, answer)?;
     report(gateway, handed, number)?;
@@ -147,8 +147,8 @@ pub fn reply_all(
     answers: &[Answer],
 ) -> Result<(), OutOfMemory>
     requires { first + length answers.now < 2 ^ 64 }
-    ensures handed { OnOk result (handed.new ≡ handed.old ++ handed_over (steps_from gateway.old (reply_calls first answers.now))) }
-    ensures after { OnOk result (gateway.new ≡ state_after gateway.old (reply_calls first answers.now)) }
+    ensures handed { OnOk result (handed.new ≡ handed.old ++ handed_over (steps_from gateway.old.state (reply_calls first answers.now))) }
+    ensures after { OnOk result (gateway.new.state ≡ state_after gateway.old.state (reply_calls first answers.now)) }
 {
     let mut number = first;
     for answer in answers {
@@ -164,8 +164,8 @@ pub fn end_all(
     handed: &mut HandedList,
     asked: &[AskedStore],
 ) -> Result<(), OutOfMemory>
-    ensures handed { OnOk result (handed.new ≡ handed.old ++ handed_over (steps_from gateway.old (map end_call asked.now))) }
-    ensures after { OnOk result (gateway.new ≡ state_after gateway.old (map end_call asked.now)) }
+    ensures handed { OnOk result (handed.new ≡ handed.old ++ handed_over (steps_from gateway.old.state (map end_call asked.now))) }
+    ensures after { OnOk result (gateway.new.state ≡ state_after gateway.old.state (map end_call asked.now)) }
 {
     for one in asked {
         end(gateway, handed, *one)?;

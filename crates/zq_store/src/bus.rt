@@ -70,9 +70,9 @@ impl Model for Bus {
 
     ghost Value = { BusState };
 
-    ghost view = { λ b. record { gateway = b.gateway; asker = b.asker; next_face = b.next_face; next_request = b.next_request; next_reply = b.next_reply; stores = b.stores; spent = b.spent } };
+    ghost view = { λ b. record { gateway = b.gateway.state; asker = b.asker; next_face = b.next_face; next_request = b.next_request; next_reply = b.next_reply; stores = b.stores; spent = b.spent } };
 
-    ghost invariant = { λ b. IsBus (record { gateway = b.gateway; asker = b.asker; next_face = b.next_face; next_request = b.next_request; next_reply = b.next_reply; stores = b.stores; spent = b.spent }) };
+    ghost invariant = { λ b. IsBus (record { gateway = b.gateway.state; asker = b.asker; next_face = b.next_face; next_request = b.next_request; next_reply = b.next_reply; stores = b.stores; spent = b.spent }) };
 }
 
 impl Bus {

@@ -61,7 +61,7 @@ fn store_call(alloc: Global, face: FaceId, key: &Key, complete: bool) -> Result<
 
 /// A face is opened as the asker and each storage is.
 pub fn open_local(alloc: Global, gateway: &mut Gateway) -> Result<(), OutOfMemory>
-    ensures { OnOk result (gateway.new ≡ after gateway.old (call.Open (local_opening gateway.old.core.config.zid))) }
+    ensures { OnOk result (gateway.new.state ≡ after gateway.old.state (call.Open (local_opening gateway.old.state.core.config.zid))) }
 {
     let opening = local_opening(alloc, gateway.zid());
     gateway.open_face(&opening)?;
@@ -76,7 +76,7 @@ fn declare(
     key: &Key,
     complete: bool,
 ) -> Result<(), OutOfMemory>
-    ensures { OnOk result (gateway.new ≡ after gateway.old (store_call face key.now complete)) }
+    ensures { OnOk result (gateway.new.state ≡ after gateway.old.state (store_call face key.now complete)) }
 {
     let call = store_call(alloc, face, key, complete)?;
     gateway.call(&call)?;
@@ -92,7 +92,7 @@ pub fn join(
     complete: bool,
 ) -> Result<Storage, OutOfMemory>
     ensures storage { IfOk result (λ s. s ≡ new_store key.now face complete) }
-    ensures after { OnOk result (gateway.new ≡ state_after gateway.old (join_calls gateway.old.core.config.zid face key.now complete)) }
+    ensures after { OnOk result (gateway.new.state ≡ state_after gateway.old.state (join_calls gateway.old.state.core.config.zid face key.now complete)) }
 {
     open_local(alloc, gateway)?;
     declare(alloc, gateway, face, key, complete)?;

@@ -14,7 +14,7 @@ impl Gateway {
     /// first bytes show that they do not meet it are passed over by one search.
     pub fn sourced_queryables_on(&self, key: &str) -> Result<SourceList, OutOfMemory>
         requires { IsTrue (is_key key.now) }
-        ensures { IfOk result (λ l. l ≡ queryables_on key.now (record { zid = self.now.core.config.zid; mode = north_of self.now.core.config.entries }) self.now.core.hats) }
+        ensures { IfOk result (λ l. l ≡ queryables_on key.now (record { zid = self.now.state.core.config.zid; mode = north_of self.now.state.core.config.entries }) self.now.state.core.hats) }
     {
         let own = Source {
             zid: self.zid(),
@@ -26,7 +26,7 @@ impl Gateway {
     /// Of `sourced_queriers` what is on the keys that meet the one that is asked for.
     pub fn sourced_queriers_on(&self, key: &str) -> Result<SourceList, OutOfMemory>
         requires { IsTrue (is_key key.now) }
-        ensures { IfOk result (λ l. l ≡ queriers_on key.now self.now.core.interests self.now.core.hats) }
+        ensures { IfOk result (λ l. l ≡ queriers_on key.now self.now.state.core.interests self.now.state.core.hats) }
     {
         queriers_on(
             self.tables.alloc(),

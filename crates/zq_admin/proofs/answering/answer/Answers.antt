@@ -5,4 +5,4 @@ use Rattle.zq_admin.proofs.answering.answer.Goals as goal
 
 pub returns-in_default : goal.returns-in_default
 returns-in_default c = λ all found.
-    none_cut c.args.asked.own c.args.asked.rid (going_on c.args.begun.steps.items c.args.gateway.now) all c.args.begun.steps.items c.ended-steps.result c.args.gateway.now c.ended-steps.new.gateway (record { steps = refl; state = refl }) c.ended-steps.ensures.steps c.ended-steps.ensures.after
+    none_cut c.args.asked.own c.args.asked.rid (going_on c.args.begun.steps.items c.args.gateway.now.state) all c.args.begun.steps.items c.ended-steps.result c.args.gateway.now.state c.ended-steps.new.gateway.state (record { steps = refl; state = refl }) c.ended-steps.ensures.steps c.ended-steps.ensures.after

@@ -5,5 +5,5 @@ use Rattle.zq_program.proofs.printing.push_answers.Given as goal
 
 abbrev pub invariant-loop-call : goal.invariant-loop-call
 invariant-loop-call l = record {
-  told : l.out.items ++ steps_words (steps_from l.gateway (drop l.call-index l.calls)) ≡ l.fn.out.items ++ steps_words (steps_from l.fn.gateway l.calls);
+  told : l.out.items ++ steps_words (steps_from l.gateway.state (drop l.call-index l.calls)) ≡ l.fn.out.items ++ steps_words (steps_from l.fn.gateway.state l.calls);
 }

@@ -7,7 +7,7 @@ use Rattle.zq_script.proofs.load.count_on.Goals as goal
 
 pub calls-preserved : goal.calls-preserved
 calls-preserved c =
-    let s = c.calls.gateway in
+    let s = c.calls.gateway.state in
     let n = c.calls.number in
     let end = 12 + 4 * c.from.result in
     let left = calls_from (n + 1) (end - (n + 1)) in
@@ -27,6 +27,6 @@ returns c =
     let end = 12 + 4 * c.from.result in
     let test = c.calls-test.false in
     let over : end ≤ c.calls.number = omega (arith, test) in
-    sym (none_counted c.calls.counts c.calls.gateway c.calls.number end over)
+    sym (none_counted c.calls.counts c.calls.gateway.state c.calls.number end over)
     ∙ c.calls.invariant.counted
     ∙ ap (λ (a : ℕ). count (handed_over (steps load_config (calls_from 0 (12 + 4 * a))))) c.from.ensures

@@ -6,8 +6,8 @@ use Rattle.zq_script.proofs.printing.print_lines.Given as goal
 
 abbrev pub invariant-lines : goal.invariant-lines
 invariant-lines l = record {
-  told : printed_on l.print.items (printed_by l.gateway (parts_from l.number false 0 (lines_of l.rest))) ≡ printed_by l.fn.gateway (parts_from l.first false 0 (lines_of l.bytes));
-  fits : FitsRun l.gateway (parts_from l.number false 0 (lines_of l.rest)) → FitsRun l.fn.gateway (parts_from l.first false 0 (lines_of l.bytes));
+  told : printed_on l.print.items (printed_by l.gateway.state (parts_from l.number false 0 (lines_of l.rest))) ≡ printed_by l.fn.gateway.state (parts_from l.first false 0 (lines_of l.bytes));
+  fits : FitsRun l.gateway.state (parts_from l.number false 0 (lines_of l.rest)) → FitsRun l.fn.gateway.state (parts_from l.first false 0 (lines_of l.bytes));
   counted : l.number + length l.rest ≤ l.first + length l.bytes;
 }
 

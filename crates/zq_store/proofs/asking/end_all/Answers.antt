@@ -10,6 +10,6 @@ loop-one-preserved c =
     let i = c.loop-one.one-index in
     let rest = map end_call (drop (i + 1) ts) in
     record {
-      handed = (λ j. c.in_ok-end.ensures.handed j ++ handed_over (steps_from (c.in_ok-end.ensures.after j) rest)) ∙ ended_step c.loop-one.handed c.loop-one.gateway ts i _ (omega (arith, c.loop-one-test.true)) ∙ c.loop-one.invariant.handed;
-      after = (λ j. state_after (c.in_ok-end.ensures.after j) rest) ∙ ended_after c.loop-one.gateway ts i _ (omega (arith, c.loop-one-test.true)) ∙ c.loop-one.invariant.after;
+      handed = (λ j. c.in_ok-end.ensures.handed j ++ handed_over (steps_from (c.in_ok-end.ensures.after j) rest)) ∙ ended_step c.loop-one.handed c.loop-one.gateway.state ts i _ (omega (arith, c.loop-one-test.true)) ∙ c.loop-one.invariant.handed;
+      after = (λ j. state_after (c.in_ok-end.ensures.after j) rest) ∙ ended_after c.loop-one.gateway.state ts i _ (omega (arith, c.loop-one-test.true)) ∙ c.loop-one.invariant.after;
     }

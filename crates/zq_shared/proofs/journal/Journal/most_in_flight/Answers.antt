@@ -10,6 +10,6 @@ use Rattle.zq_shared.proofs.journal.Journal.most_in_flight.Goals as goal
 pub returns : goal.returns
 returns c =
     let i = c.self.inside in
-    IfOk-weaker c.all_flying.result (λ n. i.flying + length (replies_of (step i.gateway c.args.call.now)) ≤ n) (λ n. length (flights (standing (with_call c.args.self.now c.args.call.now))) ≤ n)
+    IfOk-weaker c.all_flying.result (λ n. i.flying + length (replies_of (step i.gateway.state c.args.call.now)) ≤ n) (λ n. length (flights (standing (with_call c.args.self.now c.args.call.now))) ≤ n)
     (λ n few. subst (λ (s : Stored). length (flights (standing (with_call s c.args.call.now))) ≤ n) c.self.view_is
-    (most_flown i.config i.gateway i.calls.items i.flying (vec_len i.calls) (vec_capacity i.calls) c.self.invariant c.args.call.now n few)) c.all_flying.ensures
+    (most_flown i.config i.gateway.state i.calls.items i.flying (vec_len i.calls) (vec_capacity i.calls) c.self.invariant c.args.call.now n few)) c.all_flying.ensures

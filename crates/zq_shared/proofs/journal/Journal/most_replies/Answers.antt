@@ -14,5 +14,5 @@ returns c =
     ap (λ (s : State). step s c.args.call.now) c.self.invariant.stands
     ∙ (sym (answer_is (record { config = c.self.inside.config; calls = c.self.inside.calls.items }) c.args.call.now)
     ∙ ap (λ (s : Stored). answer_to s c.args.call.now) c.self.view_is) in
-    IfOk-weaker c.most_replies.result (λ n. length (replies_of (step c.self.inside.gateway c.args.call.now)) ≤ n) (λ n. length (replies_of (answer_to c.args.self.now c.args.call.now)) ≤ n)
+    IfOk-weaker c.most_replies.result (λ n. length (replies_of (step c.self.inside.gateway.state c.args.call.now)) ≤ n) (λ n. length (replies_of (answer_to c.args.self.now c.args.call.now)) ≤ n)
     (λ n few. subst (λ (t : Step). length (replies_of t) ≤ n) same few) c.most_replies.ensures

@@ -15,7 +15,7 @@ overflow_add-next c =
     let key = c.args.key.now in
     let target = c.args.target in
     let now = c.args.now in
-    let b : BusState = record { gateway = i.gateway; asker = i.asker; next_face = i.next_face; next_request = i.next_request; next_reply = i.next_reply; stores = i.stores; spent = i.spent } in
+    let b : BusState = record { gateway = i.gateway.state; asker = i.asker; next_face = i.next_face; next_request = i.next_request; next_reply = i.next_reply; stores = i.stores; spent = i.spent } in
     let asked = c.in_ok-asked.ensures ∙ (λ j. asked_of (c.as_slice-stores.ensures j) (c.as_slice.ensures j)) ∙ ap (asked_of i.stores) c.in_ok-handed.ensures.handed in
     let answers = c.in_ok-answers.ensures ∙ (λ j. answers_of (c.as_slice-stores.ensures j) key (c.as_slice-2.ensures j)) ∙ ap (answers_of i.stores key) asked in
     let free : get_refusal key b ≡ None = ap (get_refusal key) c.self.view_is ∙ c.requires.free in
@@ -29,7 +29,7 @@ reply_all-requires c =
     let key = c.args.key.now in
     let target = c.args.target in
     let now = c.args.now in
-    let b : BusState = record { gateway = i.gateway; asker = i.asker; next_face = i.next_face; next_request = i.next_request; next_reply = i.next_reply; stores = i.stores; spent = i.spent } in
+    let b : BusState = record { gateway = i.gateway.state; asker = i.asker; next_face = i.next_face; next_request = i.next_request; next_reply = i.next_reply; stores = i.stores; spent = i.spent } in
     let asked = c.in_ok-asked.ensures ∙ (λ j. asked_of (c.as_slice-stores.ensures j) (c.as_slice.ensures j)) ∙ ap (asked_of i.stores) c.in_ok-handed.ensures.handed in
     let answers = c.in_ok-answers.ensures ∙ (λ j. answers_of (c.as_slice-stores.ensures j) key (c.as_slice-2.ensures j)) ∙ ap (answers_of i.stores key) asked in
     let free : get_refusal key b ≡ None = ap (get_refusal key) c.self.view_is ∙ c.requires.free in
@@ -44,18 +44,18 @@ invariant_of-self-2 c =
     let key = c.args.key.now in
     let target = c.args.target in
     let now = c.args.now in
-    let b : BusState = record { gateway = i.gateway; asker = i.asker; next_face = i.next_face; next_request = i.next_request; next_reply = i.next_reply; stores = i.stores; spent = i.spent } in
+    let b : BusState = record { gateway = i.gateway.state; asker = i.asker; next_face = i.next_face; next_request = i.next_request; next_reply = i.next_reply; stores = i.stores; spent = i.spent } in
     let asks = ask_call i.asker key target now in
     let asked = c.in_ok-asked.ensures ∙ (λ j. asked_of (c.as_slice-stores.ensures j) (c.as_slice.ensures j)) ∙ ap (asked_of i.stores) c.in_ok-handed.ensures.handed in
     let answers = c.in_ok-answers.ensures ∙ (λ j. answers_of (c.as_slice-stores.ensures j) key (c.as_slice-2.ensures j)) ∙ ap (answers_of i.stores key) asked in
     let replied = c.as_slice-3.ensures ∙ answers in
     let ended = c.as_slice-4.ensures ∙ asked in
-    let after = after_whole i.gateway c.request.new.gateway c.reply_all.new.gateway c.end_all.new.gateway asks (reply_calls i.next_reply c.as_slice-3.result.now) (map end_call c.as_slice-4.result.now)
+    let after = after_whole i.gateway.state c.request.new.gateway.state c.reply_all.new.gateway.state c.end_all.new.gateway.state asks (reply_calls i.next_reply c.as_slice-3.result.now) (map end_call c.as_slice-4.result.now)
     c.in_ok-handed.ensures.after c.in_ok-reply_all.ensures.after c.in_ok-end_all.ensures.after
-    ∙ (λ j. state_after i.gateway (asks ∷ (reply_calls i.next_reply (replied j) ++ map end_call (ended j)))) in
+    ∙ (λ j. state_after i.gateway.state (asks ∷ (reply_calls i.next_reply (replied j) ++ map end_call (ended j)))) in
     let next = c.len.ensures ∙ ap length answers in
     let free : get_refusal key b ≡ None = ap (get_refusal key) c.self.view_is ∙ c.requires.free in
-    let left : ◌≡◌ {A = BusState} (record { gateway = c.end_all.new.gateway; asker = i.asker; next_face = i.next_face; next_request = i.next_request + 1; next_reply = i.next_reply + c.len.result; stores = i.stores; spent = false }) (after_get b key target now) =
+    let left : ◌≡◌ {A = BusState} (record { gateway = c.end_all.new.gateway.state; asker = i.asker; next_face = i.next_face; next_request = i.next_request + 1; next_reply = i.next_reply + c.len.result; stores = i.stores; spent = false }) (after_get b key target now) =
     λ j. record { gateway = after j; asker = i.asker; next_face = i.next_face; next_request = i.next_request + 1; next_reply = i.next_reply + next j; stores = i.stores; spent = sym (not_spent b key free) j } in
     let keyed : is_key key ≡ true = ap is_key (sym c.as_str-text.ensures.text) ∙ c.as_str-text.ensures.key in
     subst IsBus (sym left) (got_keeps b c.self.invariant key keyed target now free)
@@ -66,15 +66,15 @@ returns-clause-ok c =
     let key = c.args.key.now in
     let target = c.args.target in
     let now = c.args.now in
-    let b : BusState = record { gateway = i.gateway; asker = i.asker; next_face = i.next_face; next_request = i.next_request; next_reply = i.next_reply; stores = i.stores; spent = i.spent } in
+    let b : BusState = record { gateway = i.gateway.state; asker = i.asker; next_face = i.next_face; next_request = i.next_request; next_reply = i.next_reply; stores = i.stores; spent = i.spent } in
     let asks = ask_call i.asker key target now in
     let asked = c.in_ok-asked.ensures ∙ (λ j. asked_of (c.as_slice-stores.ensures j) (c.as_slice.ensures j)) ∙ ap (asked_of i.stores) c.in_ok-handed.ensures.handed in
     let answers = c.in_ok-answers.ensures ∙ (λ j. answers_of (c.as_slice-stores.ensures j) key (c.as_slice-2.ensures j)) ∙ ap (answers_of i.stores key) asked in
     let replied = c.as_slice-3.ensures ∙ answers in
     let ended = c.as_slice-4.ensures ∙ asked in
-    let handed = handed_whole i.gateway c.request.new.gateway c.reply_all.new.gateway c.in_ok-handed.handed c.reply_all.new.handed c.end_all.new.handed asks (reply_calls i.next_reply c.as_slice-3.result.now) (map end_call c.as_slice-4.result.now)
+    let handed = handed_whole i.gateway.state c.request.new.gateway.state c.reply_all.new.gateway.state c.in_ok-handed.handed c.reply_all.new.handed c.end_all.new.handed asks (reply_calls i.next_reply c.as_slice-3.result.now) (map end_call c.as_slice-4.result.now)
     c.in_ok-handed.ensures.handed c.in_ok-handed.ensures.after c.in_ok-reply_all.ensures.handed c.in_ok-reply_all.ensures.after c.in_ok-end_all.ensures.handed
-    ∙ (λ j. handed_over (steps_from i.gateway (asks ∷ (reply_calls i.next_reply (replied j) ++ map end_call (ended j))))) in
+    ∙ (λ j. handed_over (steps_from i.gateway.state (asks ∷ (reply_calls i.next_reply (replied j) ++ map end_call (ended j))))) in
     let replies = c.in_ok-replies.ensures ∙ ap (map got_reply) answers in
     let got : ◌≡◌ {A = Got} (record { replies = c.in_ok-replies.replies; handed = c.end_all.new.handed }) (got_of b key target now) = λ j. record { replies = replies j; handed = handed j } in
     got ∙ ap (λ x. got_of x key target now) c.self.view_is
@@ -85,18 +85,18 @@ returns-clause-new c =
     let key = c.args.key.now in
     let target = c.args.target in
     let now = c.args.now in
-    let b : BusState = record { gateway = i.gateway; asker = i.asker; next_face = i.next_face; next_request = i.next_request; next_reply = i.next_reply; stores = i.stores; spent = i.spent } in
+    let b : BusState = record { gateway = i.gateway.state; asker = i.asker; next_face = i.next_face; next_request = i.next_request; next_reply = i.next_reply; stores = i.stores; spent = i.spent } in
     let asks = ask_call i.asker key target now in
     let asked = c.in_ok-asked.ensures ∙ (λ j. asked_of (c.as_slice-stores.ensures j) (c.as_slice.ensures j)) ∙ ap (asked_of i.stores) c.in_ok-handed.ensures.handed in
     let answers = c.in_ok-answers.ensures ∙ (λ j. answers_of (c.as_slice-stores.ensures j) key (c.as_slice-2.ensures j)) ∙ ap (answers_of i.stores key) asked in
     let replied = c.as_slice-3.ensures ∙ answers in
     let ended = c.as_slice-4.ensures ∙ asked in
-    let after = after_whole i.gateway c.request.new.gateway c.reply_all.new.gateway c.end_all.new.gateway asks (reply_calls i.next_reply c.as_slice-3.result.now) (map end_call c.as_slice-4.result.now)
+    let after = after_whole i.gateway.state c.request.new.gateway.state c.reply_all.new.gateway.state c.end_all.new.gateway.state asks (reply_calls i.next_reply c.as_slice-3.result.now) (map end_call c.as_slice-4.result.now)
     c.in_ok-handed.ensures.after c.in_ok-reply_all.ensures.after c.in_ok-end_all.ensures.after
-    ∙ (λ j. state_after i.gateway (asks ∷ (reply_calls i.next_reply (replied j) ++ map end_call (ended j)))) in
+    ∙ (λ j. state_after i.gateway.state (asks ∷ (reply_calls i.next_reply (replied j) ++ map end_call (ended j)))) in
     let next = c.len.ensures ∙ ap length answers in
     let free : get_refusal key b ≡ None = ap (get_refusal key) c.self.view_is ∙ c.requires.free in
-    let left : ◌≡◌ {A = BusState} (record { gateway = c.end_all.new.gateway; asker = i.asker; next_face = i.next_face; next_request = i.next_request + 1; next_reply = i.next_reply + c.len.result; stores = i.stores; spent = false }) (after_get b key target now) =
+    let left : ◌≡◌ {A = BusState} (record { gateway = c.end_all.new.gateway.state; asker = i.asker; next_face = i.next_face; next_request = i.next_request + 1; next_reply = i.next_reply + c.len.result; stores = i.stores; spent = false }) (after_get b key target now) =
     λ j. record { gateway = after j; asker = i.asker; next_face = i.next_face; next_request = i.next_request + 1; next_reply = i.next_reply + next j; stores = i.stores; spent = sym (not_spent b key free) j } in
     left ∙ ap (λ x. after_get x key target now) c.self.view_is
 

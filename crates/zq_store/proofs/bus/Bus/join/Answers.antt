@@ -9,20 +9,20 @@ pub invariant_of-self-2 : goal.invariant_of-self-2
 invariant_of-self-2 c =
     let i = c.self.inside in
     let key = c.args.key.now in
-    let b : BusState = record { gateway = i.gateway; asker = i.asker; next_face = i.next_face; next_request = i.next_request; next_reply = i.next_reply; stores = i.stores; spent = i.spent } in
+    let b : BusState = record { gateway = i.gateway.state; asker = i.asker; next_face = i.next_face; next_request = i.next_request; next_reply = i.next_reply; stores = i.stores; spent = i.spent } in
     let free : add_refusal b ≡ None = ap add_refusal c.self.view_is ∙ c.requires.free in
     let keyed : is_key key ≡ true = ap is_key (sym c.as_str-text.ensures.text) ∙ c.as_str-text.ensures.key in
     let stores = c.in_ok-push.ensures.ok ∙ ap (λ s. i.stores ++ s ∷ []) c.in_ok-storage.ensures.storage in
-    subst IsBus (sym (joined key c.args.complete b c.join.new.gateway c.push.new.self c.in_ok-storage.ensures.after stores free)) (added_keeps key c.args.complete b c.self.invariant free keyed)
+    subst IsBus (sym (joined key c.args.complete b c.join.new.gateway.state c.push.new.self c.in_ok-storage.ensures.after stores free)) (added_keeps key c.args.complete b c.self.invariant free keyed)
 
 pub returns-clause-new : goal.returns-clause-new
 returns-clause-new c =
     let i = c.self.inside in
     let key = c.args.key.now in
-    let b : BusState = record { gateway = i.gateway; asker = i.asker; next_face = i.next_face; next_request = i.next_request; next_reply = i.next_reply; stores = i.stores; spent = i.spent } in
+    let b : BusState = record { gateway = i.gateway.state; asker = i.asker; next_face = i.next_face; next_request = i.next_request; next_reply = i.next_reply; stores = i.stores; spent = i.spent } in
     let free : add_refusal b ≡ None = ap add_refusal c.self.view_is ∙ c.requires.free in
     let stores = c.in_ok-push.ensures.ok ∙ ap (λ s. i.stores ++ s ∷ []) c.in_ok-storage.ensures.storage in
-    joined key c.args.complete b c.join.new.gateway c.push.new.self c.in_ok-storage.ensures.after stores free ∙ ap (added key c.args.complete) c.self.view_is
+    joined key c.args.complete b c.join.new.gateway.state c.push.new.self c.in_ok-storage.ensures.after stores free ∙ ap (added key c.args.complete) c.self.view_is
 
 pub returns-clause-served : goal.returns-clause-served
 returns-clause-served c =
