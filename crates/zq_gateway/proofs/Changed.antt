@@ -1,5 +1,5 @@
 -- The hats after a call: it changes that of one region at most, and a refused one changes none.
-use Rattle.std.proofs.Common.{◌≡◌, ◌∙◌, refl, sym, ap, ℕ, Bool, true, false, true≢false, cond, List, [], ◌∷◌, Option, Some, None}
+use Rattle.std.proofs.Common.{◌≡◌, ◌∙◌, refl, ap, ℕ, Bool, true, false, true≢false, cond, List, [], ◌∷◌, Option, Some, None}
 use Rattle.std.specs.Option.{option_map, option_map_or}
 use Rattle.zq_message.specs.declared.message.Region.{Region}
 use Rattle.zq_strategy.specs.Kept.{registered, unregistered, without_face}

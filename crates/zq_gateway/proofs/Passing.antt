@@ -1,5 +1,5 @@
 -- How many replies a call hands.
-use Rattle.std.proofs.Common.{◌≡◌, ℕ, ◌+◌, ◌≤◌, Bool, true, false, cond, List, [], ◌∷◌, ◌++◌, map, length, Option, Some, None, refl, sym, ap, ◌∙◌, subst, arith}
+use Rattle.std.proofs.Common.{◌≡◌, ℕ, ◌≤◌, true, false, cond, List, [], ◌∷◌, ◌++◌, map, length, Option, Some, None, refl, sym, ap, ◌∙◌, subst, arith}
 use Rattle.std.specs.List.{AllByRecursion, cons_option, filter_map, list_any}
 use Rattle.std.specs.Option.{is_some, option_map}
 use Rattle.std.proofs.lemmas.Bool.{false≢true, or_parts}
@@ -17,7 +17,7 @@ use Rattle.zq_message.specs.declared.message.FaceId.{FaceId}
 use Rattle.zq_message.specs.declared.message.Response.{Response}
 use Rattle.zq_machine.specs.declared.call.Call.{Call}
 use Rattle.zq_machine.specs.Asked.{replies_of, reply_number}
-use Rattle.zq_machine.specs.Deciding.{handed_replies, handed_reply, handed_timeouts, passing_finals, refusal_of, timed_out}
+use Rattle.zq_machine.specs.Deciding.{handed_reply, handed_timeouts, passing_finals, refusal_of, timed_out}
 use Rattle.zq_machine.specs.Headline.{IsFit, RefusesBy, may_hand, replies_to}
 use Rattle.zq_machine.specs.Gates.{Gates, through}
 use Rattle.zq_machine.specs.Handing.{Handed}

@@ -14,10 +14,10 @@ use Rattle.zq_machine.specs.declared.call.Call.{Call}
 use Rattle.zq_machine.specs.declared.call.Call.TheVariants as call
 use Rattle.zq_machine.specs.declared.call.Step.{Step}
 use Rattle.zq_machine.specs.Deciding.{is_accepted}
-use Rattle.zq_machine.specs.Machine.{after, after_of, step_of}
+use Rattle.zq_machine.specs.Machine.{after, after_of}
 use Rattle.zq_machine.specs.State.{State}
 use Rattle.zq_kept.specs.Current.{AreCurrent, KeepsNamed, KeptOffers}
-use Rattle.zq_gateway.specs.Caching.{Cached, KeepsAsked, LetsGo, MayKeepAsked, change_in, changes_hat, may_change_hat, may_region_changed}
+use Rattle.zq_gateway.specs.Caching.{KeepsAsked, LetsGo, MayKeepAsked, change_in, changes_hat, may_change_hat, may_region_changed}
 use Rattle.zq_gateway.specs.Making.{IsReached, MayMake, MayPerform}
 use Rattle.zq_gateway.proofs.Changed.{Changes, accepted_changes, refused_hats, spared_hats, without_region}
 use Rattle.zq_gateway.proofs.Reached.{reached_after, reached_may}

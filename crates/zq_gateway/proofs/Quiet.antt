@@ -1,5 +1,5 @@
 -- A call that is no request, tells nothing and is refused by nothing: its messages go out through the gates of their faces, each by itself, and it leaves what it changes itself.
-use Rattle.std.proofs.Common.{◌≡◌, ◌∙◌, refl, sym, ap, subst, ℕ, true, false, cond, not, List, [], ◌∷◌, map, fold, Option, Some, None, append-nil, true≢false}
+use Rattle.std.proofs.Common.{◌≡◌, ◌∙◌, refl, sym, ap, subst, ℕ, true, false, not, List, [], ◌∷◌, map, fold, Option, None, append-nil, true≢false}
 use Rattle.std.specs.List.{All, AllByRecursion, list_any}
 use Rattle.std.proofs.lemmas.Bool.{or_parts}
 use Rattle.std.proofs.lemmas.List.{map-append}
@@ -10,7 +10,7 @@ use Rattle.zq_message.specs.declared.message.Message.TheVariants as message
 use Rattle.zq_message.specs.declared.message.Response.{Response}
 use Rattle.zq_namespace.specs.Denied.{HasKey}
 use Rattle.zq_query.specs.declared.records.Final.{Final}
-use Rattle.zq_query.specs.Polling.{lacks_replies, timeouts}
+use Rattle.zq_query.specs.Polling.{timeouts}
 use Rattle.zq_query.specs.Records.{is_pending, lacks_reply}
 use Rattle.zq_tables.specs.declared.resolved.Resolved.{Resolved}
 use Rattle.zq_tables.specs.Naming.{NamingState}

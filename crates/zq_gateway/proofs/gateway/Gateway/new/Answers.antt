@@ -1,4 +1,4 @@
-use Rattle.std.proofs.Common.{◌≡◌, ◌∙◌, sym, ap}
+use Rattle.std.proofs.Common.{◌∙◌, sym, ap}
 use Rattle.zq_machine.specs.Configs.{bad_config}
 use Rattle.zq_machine.proofs.Kept.{headline}
 use Rattle.zq_trace.proofs.Valid.{valid_keep}

@@ -1,4 +1,4 @@
-use Rattle.std.proofs.Common.{refl, ap, subst}
+use Rattle.std.proofs.Common.{refl, subst}
 use Rattle.std.specs.Prelude.{◌≡◌, IfOk, []}
 use Rattle.std.specs.List.{cons_option}
 use Rattle.zq_machine.specs.declared.call.Call.TheVariants as call

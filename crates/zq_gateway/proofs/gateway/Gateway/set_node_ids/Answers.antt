@@ -1,7 +1,7 @@
 use Rattle.std.proofs.Common.{subst, Some}
 use Rattle.zq_machine.specs.declared.call.Call.TheVariants as call
 use Rattle.zq_machine.specs.State.{State}
-use Rattle.zq_gateway.specs.Caching.{Cached, LetsGo, may_region_changed}
+use Rattle.zq_gateway.specs.Caching.{Cached, LetsGo}
 use Rattle.zq_gateway.specs.Making.{MayPerform}
 use Rattle.zq_gateway.proofs.Performed.{always, left_sound, named_same, performed}
 use Rattle.zq_gateway.proofs.gateway.Gateway.set_node_ids.Goals as goal

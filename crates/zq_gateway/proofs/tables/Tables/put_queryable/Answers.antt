@@ -1,4 +1,4 @@
-use Rattle.std.proofs.Common.{◌≡◌, ◌∙◌, refl, sym, ap, Err, subst, [], map, None, Some}
+use Rattle.std.proofs.Common.{◌∙◌, refl, sym, ap, Err, subst, [], map}
 use Rattle.std.specs.List.{AllByRecursion}
 use Rattle.zq_strategy.specs.Tellings.{in_order}
 use Rattle.zq_strategy.specs.Kept.{registered}
