@@ -230,12 +230,7 @@ struct Made {
 }
 
 /// The calls of the lines from a new gateway of a configuration on.
-fn entries_of(
-    alloc: Global,
-    config: &Config,
-    first: u64,
-    bytes: &[u8],
-) -> Result<Made, OutOfMemory>
+fn entries_of(alloc: Global, config: &Config, first: u64, bytes: &[u8]) -> Result<Made, OutOfMemory>
     requires { first + length bytes.now < 2 ^ 64 }
     ensures entries { IfOk result (λ m. m.entries ≡ entries_from first (begun config.now) no_faces (lines_of bytes.now)) }
     ensures bad { IfOk result (λ m. m.bad ≡ bad_from first (lines_of bytes.now)) }
