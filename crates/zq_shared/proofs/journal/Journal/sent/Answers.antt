@@ -28,16 +28,16 @@ invariant_of-self c =
     let i = c.self.invariant in
     let p = c.push_reserved.ensures in
     let some = (flying_some c.self.inside.config c.self.inside.gateway.state c.self.inside.calls.items c.self.inside.flying (vec_len c.self.inside.calls) (vec_capacity c.self.inside.calls) i c.args.reply accepts).0 in
-    subst (λ (l : List Call). IsStored c.self.inside.config c.sent.new.self l (c.self.inside.flying - 1) (vec_len c.push_reserved.new.self) (vec_capacity c.push_reserved.new.self)) (sym p.items)
-    (subst (λ (n : ℕ). IsStored c.self.inside.config c.sent.new.self (c.self.inside.calls.items ++ call.Sent c.args.reply ∷ []) (c.self.inside.flying - 1) (vec_len c.push_reserved.new.self) n) (sym p.capacity)
+    subst (λ (l : List Call). IsStored c.self.inside.config c.sent.new.self.state l (c.self.inside.flying - 1) (vec_len c.push_reserved.new.self) (vec_capacity c.push_reserved.new.self)) (sym p.items)
+    (subst (λ (n : ℕ). IsStored c.self.inside.config c.sent.new.self.state (c.self.inside.calls.items ++ call.Sent c.args.reply ∷ []) (c.self.inside.flying - 1) (vec_len c.push_reserved.new.self) n) (sym p.capacity)
     (stored_less c.self.inside.config c.self.inside.gateway.state c.self.inside.calls.items c.self.inside.flying (vec_len c.self.inside.calls) (vec_capacity c.self.inside.calls) i c.args.reply accepts
-    c.sent.new.self (c.self.inside.flying - 1) (vec_len c.push_reserved.new.self) c.sent.ensures.after (omega (arith, some)) p.len))
+    c.sent.new.self.state (c.self.inside.flying - 1) (vec_len c.push_reserved.new.self) c.sent.ensures.after (omega (arith, some)) p.len))
 
 pub invariant_of-self-in-Err : goal.invariant_of-self-in-Err
 invariant_of-self-in-Err c =
     let i = c.self.invariant in
     subst (λ (s : State). IsStored c.self.inside.config s c.self.inside.calls.items c.self.inside.flying (vec_len c.self.inside.calls) (vec_capacity c.self.inside.calls))
-    (sym (stored_same c.self.inside.config c.self.inside.gateway.state c.self.inside.calls.items c.self.inside.flying (vec_len c.self.inside.calls) (vec_capacity c.self.inside.calls) i c.args.reply c.sent.new.self _ c.sent.ensures.after c.in-Err.ensures.refused)) i
+    (sym (stored_same c.self.inside.config c.self.inside.gateway.state c.self.inside.calls.items c.self.inside.flying (vec_len c.self.inside.calls) (vec_capacity c.self.inside.calls) i c.args.reply c.sent.new.self.state _ c.sent.ensures.after c.in-Err.ensures.refused)) i
 
 pub returns-in-Ok-clause-answer : goal.returns-in-Ok-clause-answer
 returns-in-Ok-clause-answer c =
