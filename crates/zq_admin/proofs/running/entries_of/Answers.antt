@@ -7,6 +7,6 @@ use Rattle.zq_admin.proofs.running.entries_of.Goals as goal
 
 pub returns : goal.returns
 returns c =
-    of_calls c.args.key.now _ c.args.script.now.config (first_part c.args.script.now.parts) c.list.result
+    of_calls c.args.key.now _ c.args.script.now.config (first_part c.args.script.now.parts) c.list-found.result
     (c.in_ok-gateway.ensures ∙ ap (state_after (opening_state c.args.script.now.config)) c.first_calls.ensures)
-    c.list.ensures.traced
+    c.list-found.ensures.traced
