@@ -32,10 +32,9 @@ next_added n s other new told line lines rest entries more whole e a i =
     next_entries n s other new told line lines rest a.call entries more whole e a.is a.made a.sees a.added i
 
 -- the entries from a new gateway on
-pub from_begun : {E : Type 0} (r : Result (List Entry × Option BadLine) E) (n : ℕ) (s : State) (other : SeenState) (config : Settings) (lines : List (List ℕ)) → s ≡ begun config → other ≡ no_faces → IfOk r (λ t. t.0 ≡ entries_from n s other lines) → IfOk r (λ t. t.0 ≡ entries_from n (begun config) no_faces lines)
-from_begun (Ok t) n s other config lines e f g =
+pub from_begun : (entries : List Entry) (n : ℕ) (s : State) (other : SeenState) (config : Settings) (lines : List (List ℕ)) → s ≡ begun config → other ≡ no_faces → entries ≡ entries_from n s other lines → entries ≡ entries_from n (begun config) no_faces lines
+from_begun entries n s other config lines e f g =
     g ∙ ap (λ (x : State). entries_from n x other lines) e ∙ ap (λ (x : SeenState). entries_from n (begun config) x lines) f
-from_begun (Err x) n s other config lines e f g = tt
 
 -- a line that is no call ends the calls
 pub last_entries : (n : ℕ) (s : State) (other : SeenState) (line : List ℕ) (lines rest : List (List ℕ)) (entries whole : List Entry) → rest ≡ line ∷ lines → script_call false line ≡ None → entries ++ entries_from n s other rest ≡ whole → entries ≡ whole

@@ -10,9 +10,9 @@ use std::marker::Model;
 use zq_admin::{list, print_entries};
 use zq_gateway::Gateway;
 use zq_hat::Hat;
+use zq_key::Key;
 use zq_key::memory::OutOfMemory;
 use zq_key::message::Zid;
-use zq_key::{Key, KeyError};
 use zq_machine::call::{Call, Step};
 use zq_machine::config::Config;
 use zq_message::RegionMap;
@@ -92,7 +92,6 @@ fn all_entries(alloc: Global) -> Result<Key, OutOfMemory>
 {
     match Key::new(alloc, "@/**") {
         Ok(key) => Ok(key),
-        Err(KeyError::Invalid) => unreachable!(),
-        Err(KeyError::OutOfMemory) => Err(OutOfMemory),
+        Err(_) => Err(OutOfMemory),
     }
 }
