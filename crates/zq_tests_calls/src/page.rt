@@ -54,6 +54,7 @@ fn a_bad_line_is_told(rt: HostRuntime) -> Result<(), Fail> {
         faces: Items::new(alloc),
         lines: Items::new(alloc),
         bad: Some(bad),
+        stands: Items::new(alloc),
         scope: Bytes::new(alloc, b"")?,
         lanes: Items::new(alloc),
         rows: Items::new(alloc),
