@@ -1,8 +1,6 @@
-//! Tests of calls: lines and prints, pages and reasons, what configurations are refused, each method of the gateway, what offers it keeps, and messages of faces as calls.
+//! Tests of calls: lines and prints, pages and reasons, what configurations are refused, each method of the gateway, and messages of faces as calls.
 #![tactic(auto)]
 
-#[cfg(test)]
-mod cached;
 #[cfg(test)]
 mod config;
 #[cfg(test)]
