@@ -1,6 +1,6 @@
 -- What is found once a route is stored, and once a region's version has changed.
-use Rattle.std.proofs.Common.{◌≡◌, ◌∙◌, sym, ap, refl, arith, subst, ℕ, ◌≤◌, ◌<◌, List, [], ◌∷◌, Some, None, Option, cond, Bool, true, false, true≢false, length, length-set, get_or, set, eqb-true, Result, Ok, Err}
-use Rattle.std.specs.Prelude.{◌==◌, ◌&&◌, unwrap_or, slice_index, OnOk, OnErr}
+use Rattle.std.proofs.Common.{◌≡◌, ◌∙◌, sym, ap, refl, arith, ℕ, ◌≤◌, ◌<◌, List, [], ◌∷◌, Some, None, Option, cond, Bool, true, false, true≢false, length, length-set, get_or, set, eqb-true}
+use Rattle.std.specs.Prelude.{◌==◌, ◌&&◌, unwrap_or, slice_index}
 use Rattle.std.specs.Cmp.{nat_cmp_total, nat_eq_equiv}
 use Rattle.std.proofs.lemmas.List.{get_or-set_other}
 use Rattle.std.proofs.lemmas.Grind.{get_or-set_at}
@@ -11,14 +11,14 @@ use Rattle.std.proofs.lemmas.Map.Lookups.{exact_bytes, exact_unsigned}
 use Rattle.zq_message.specs.declared.message.Region.{Region}
 use Rattle.zq_message.specs.Region.{region_index}
 use Rattle.zq_message.specs.RegionMap.{value_at}
-use Rattle.zq_key.proofs.Lookups.{either_way, same_key}
+use Rattle.zq_key.proofs.Lookups.{at_itself, either_way, same_key}
 use Rattle.zq_index.specs.Texts.{at_text, text_cmp}
 use Rattle.zq_index.proofs.Orders.{text_total}
 use Rattle.zq_route.specs.Routes.{Origin, origin_cmp, origin_of, with_route}
 use Rattle.zq_route.proofs.Stored.{route_after}
-use Rattle.zq_kept.specs.Table.{Fewer, OtherTexts, IsBelow, IsTable, OfText, Stores, Table, Under, route_in, route_of, routes_at, routes_to, version_of}
-use Rattle.zq_kept.specs.declared.table.Spot.{Spot}
-use Rattle.zq_kept.specs.Parts.{GivesText, no_routes}
+use Rattle.zq_kept.specs.Table.{Fewer, OtherTexts, IsTable, OfText, Stores, Under, one_text, route_in, route_of, routes_at, routes_to}
+use Rattle.zq_kept.specs.declared.text.Spot.{Spot}
+use Rattle.zq_kept.specs.Parts.{SetsIn, no_routes}
 
 module _ {T : Type 0} where
   empty_by : (b : Bool) (test : Origin → Bool) → lookup {X = T} test (cond b [] []) ≡ None
@@ -32,57 +32,63 @@ module _ {T : Type 0} where
       ∙ ap (cond (is_at (origin_cmp (origin_of src node)) (origin_of s n)) (Some route)) (empty_by (0 == v) (is_at (origin_cmp (origin_of s n))))
   sets_found v src s node n route (Some us) = route_after v src s node n route us
 
-  module _ (old new : Table T) (key : List ℕ) (dst src : Region) (node : ℕ) (route : T) (rs : OfText T) (texts : (k : List ℕ) → at_text k new.1 ≡ cond (is_at (text_cmp key) k) (Some rs) (at_text k old.1)) (sets : (r : Region) → value_at rs r ≡ cond (is_at (nat_cmp (region_index dst)) (region_index r)) (Some (with_route (version_of dst old) src node route (unwrap_or (routes_to dst (at_text key old.1)) no_routes))) (routes_to r (at_text key old.1))) (versions : new.0 ≡ old.0) where
-    base : (r : Region) (k : List ℕ) (s : Region) (n : ℕ) → route_of r k s n new ≡ route_in (slice_index old.0 (region_index r)) s n (routes_to r (cond (is_at (text_cmp key) k) (Some rs) (at_text k old.1)))
-    base r k s n = λ j. route_in (slice_index (versions j) (region_index r)) s n (routes_to r (texts k j))
+-- ---- a route is stored among those of a text
+module _ {T : Type 0} (vs : List ℕ) (key : List ℕ) (old new : OfText T) (p : Spot) (route : T) (sets : SetsIn old new p route) (version : p.version ≡ slice_index vs (region_index p.dst)) where
+  -- what is found of the text
+  abbrev in_text : OfText T → Region → ℕ → Bool → Region → ℕ → Option T
+  in_text rs r v b s n = route_in v s n (routes_to r (cond b (Some rs) None))
 
-    stores_by : (r : Region) (k : List ℕ) (s : Region) (n : ℕ) (a b : Bool) → is_at (nat_cmp (region_index dst)) (region_index r) ≡ a → is_at (text_cmp key) k ≡ b
-        → route_of r k s n new ≡ cond (a && b && is_at (origin_cmp (origin_of src node)) (origin_of s n)) (Some route) (route_of r k s n old)
-    stores_by r k s n true true ea eb =
-        let i : region_index dst ≡ region_index r = same_key nat_cmp_total exact_unsigned _ _ ea in
-        let t : key ≡ k = same_key text_total exact_bytes key k eb in
-        base r k s n
-        ∙ ap (λ b. route_in (slice_index old.0 (region_index r)) s n (routes_to r (cond b (Some rs) (at_text k old.1)))) eb
-        ∙ ap (route_in (slice_index old.0 (region_index r)) s n) (sets r ∙ ap (λ a. cond a (Some (with_route (version_of dst old) src node route (unwrap_or (routes_to dst (at_text key old.1)) no_routes))) (routes_to r (at_text key old.1))) ea)
-        ∙ ap (λ x. route_in (slice_index old.0 (region_index r)) s n (Some (with_route (slice_index old.0 x) src node route (unwrap_or (routes_at x (at_text key old.1)) no_routes)))) i
-        ∙ sets_found (slice_index old.0 (region_index r)) src s node n route (routes_to r (at_text key old.1))
-        ∙ ap (λ x. cond (is_at (origin_cmp (origin_of src node)) (origin_of s n)) (Some route) (route_in (slice_index old.0 (region_index r)) s n (routes_to r (at_text x old.1)))) t
-    stores_by r k s n false true ea eb =
-        let t : key ≡ k = same_key text_total exact_bytes key k eb in
-        base r k s n
-        ∙ ap (λ b. route_in (slice_index old.0 (region_index r)) s n (routes_to r (cond b (Some rs) (at_text k old.1)))) eb
-        ∙ ap (route_in (slice_index old.0 (region_index r)) s n) (sets r ∙ ap (λ a. cond a (Some (with_route (version_of dst old) src node route (unwrap_or (routes_to dst (at_text key old.1)) no_routes))) (routes_to r (at_text key old.1))) ea)
-        ∙ ap (λ x. route_in (slice_index old.0 (region_index r)) s n (routes_to r (at_text x old.1))) t
-    stores_by r k s n true false ea eb = base r k s n ∙ ap (λ b. route_in (slice_index old.0 (region_index r)) s n (routes_to r (cond b (Some rs) (at_text k old.1)))) eb
-    stores_by r k s n false false ea eb = base r k s n ∙ ap (λ b. route_in (slice_index old.0 (region_index r)) s n (routes_to r (cond b (Some rs) (at_text k old.1)))) eb
+  abbrev stored : ℕ → Option (Under T) → Option (Under T)
+  stored v us = Some (with_route v p.src p.node route (unwrap_or us no_routes))
 
-    -- one route more is stored
-    pub stores : Stores old new dst key src node route
-    stores r k s n = stores_by r k s n _ _ refl refl
+  here : (k : List ℕ) (b : Bool) → is_at (text_cmp key) k ≡ b → is_at (text_cmp k) key ≡ b
+  here k b eb = either_way text_total exact_bytes k key ∙ eb
 
-    below_old : IsBelow old → (r : Region) (o : Option (OfText T)) (k : List ℕ) (us : Under T) → at_text k old.1 ≡ o → routes_to r o ≡ Some us → us.0 ≤ version_of r old
-    below_old b r None k us e is = absurd (let no : None ≡ Some us = is in cc)
-    below_old b r (Some qs) k us e is = b k qs r us e is
+  stores_by : (r : Region) (k : List ℕ) (s : Region) (n : ℕ) (a b : Bool) → is_at (nat_cmp (region_index p.dst)) (region_index r) ≡ a → is_at (text_cmp key) k ≡ b
+      → route_of r k s n (one_text vs key new) ≡ cond (a && b && is_at (origin_cmp (origin_of p.src p.node)) (origin_of s n)) (Some route) (route_of r k s n (one_text vs key old))
+  stores_by r k s n true true ea eb =
+      let v : ℕ = slice_index vs (region_index r) in
+      let i : region_index p.dst ≡ region_index r = same_key nat_cmp_total exact_unsigned _ _ ea in
+      ap (λ b. in_text new r v b s n) (here k true eb)
+      ∙ ap (route_in v s n) (sets r ∙ ap (λ a. cond a (stored p.version (value_at old p.dst)) (value_at old r)) ea)
+      ∙ ap (λ w. route_in v s n (stored w (value_at old p.dst))) version
+      ∙ ap (λ x. route_in v s n (stored (slice_index vs x) (routes_at x (Some old)))) i
+      ∙ sets_found v p.src s p.node n route (value_at old r)
+      ∙ ap (λ b. cond (is_at (origin_cmp (origin_of p.src p.node)) (origin_of s n)) (Some route) (in_text old r v b s n)) (sym (here k true eb))
+  stores_by r k s n false true ea eb =
+      let v : ℕ = slice_index vs (region_index r) in
+      ap (λ b. in_text new r v b s n) (here k true eb)
+      ∙ ap (route_in v s n) (sets r ∙ ap (λ a. cond a (stored p.version (value_at old p.dst)) (value_at old r)) ea)
+      ∙ ap (λ b. in_text old r v b s n) (sym (here k true eb))
+  stores_by r k s n true false ea eb =
+      let v : ℕ = slice_index vs (region_index r) in
+      ap (λ b. in_text new r v b s n) (here k false eb) ∙ ap (λ b. in_text old r v b s n) (sym (here k false eb))
+  stores_by r k s n false false ea eb =
+      let v : ℕ = slice_index vs (region_index r) in
+      ap (λ b. in_text new r v b s n) (here k false eb) ∙ ap (λ b. in_text old r v b s n) (sym (here k false eb))
 
-    below_set : IsBelow old → (r : Region) (us : Under T) (a : Bool) → is_at (nat_cmp (region_index dst)) (region_index r) ≡ a → cond a (Some (with_route (version_of dst old) src node route (unwrap_or (routes_to dst (at_text key old.1)) no_routes))) (routes_to r (at_text key old.1)) ≡ Some us → us.0 ≤ version_of r old
-    below_set b r us true ea is =
-        let i : region_index dst ≡ region_index r = same_key nat_cmp_total exact_unsigned _ _ ea in
-        let w : Under T = with_route (version_of dst old) src node route (unwrap_or (routes_to dst (at_text key old.1)) no_routes) in
-        let e : w ≡ us = (let same : Some w ≡ Some us = is in cc) in
-        let v : us.0 ≡ version_of r old = ap (λ (u : Under T). u.0) (sym e) ∙ ap (slice_index old.0) i in
-        omega (arith, v)
-    below_set b r us false ea is = below_old b r (at_text key old.1) key us refl is
+  -- one route more is stored
+  pub stores : Stores (one_text vs key old) (one_text vs key new) p.dst key p.src p.node route
+  stores r k s n = stores_by r k s n _ _ refl refl
 
-    below_by : IsBelow old → (k : List ℕ) (qs : OfText T) (r : Region) (us : Under T) (b : Bool) → is_at (text_cmp key) k ≡ b → cond b (Some rs) (at_text k old.1) ≡ Some qs → value_at qs r ≡ Some us → us.0 ≤ version_of r old
-    below_by b k qs r us true eb e is =
-        let same : rs ≡ qs = (let both : Some rs ≡ Some qs = e in cc) in
-        below_set b r us _ refl (sym (sets r) ∙ ap (λ x. value_at x r) same ∙ is)
-    below_by b k qs r us false eb e is = b k qs r us e is
+  below_set : IsTable (one_text vs key old) → (r : Region) (us : Under T) (a : Bool) → is_at (nat_cmp (region_index p.dst)) (region_index r) ≡ a → cond a (stored p.version (value_at old p.dst)) (value_at old r) ≡ Some us → us.0 ≤ slice_index vs (region_index r)
+  below_set t r us true ea is =
+      let i : region_index p.dst ≡ region_index r = same_key nat_cmp_total exact_unsigned _ _ ea in
+      let w : Under T = with_route p.version p.src p.node route (unwrap_or (value_at old p.dst) no_routes) in
+      let e : w ≡ us = (let same : Some w ≡ Some us = is in cc) in
+      let v : us.0 ≡ slice_index vs (region_index r) = ap (λ (u : Under T). u.0) (sym e) ∙ version ∙ ap (slice_index vs) i in
+      omega (arith, v)
+  below_set t r us false ea is =
+      t.below key old r us (ap (λ b. cond b (Some old) None) (at_itself text_total exact_bytes key)) is
 
-    pub below : IsBelow old → IsBelow new
-    below b k qs r us e is =
-        let under = below_by b k qs r us _ refl (sym (texts k) ∙ e) is in
-        subst (λ vs. us.0 ≤ slice_index vs (region_index r)) (sym versions) under
+  below_by : IsTable (one_text vs key old) → (rs : OfText T) (r : Region) (us : Under T) (b : Bool) → cond b (Some new) None ≡ Some rs → value_at rs r ≡ Some us → us.0 ≤ slice_index vs (region_index r)
+  below_by t rs r us true e is =
+      let same : new ≡ rs = (let both : Some new ≡ Some rs = e in cc) in
+      below_set t r us _ refl (sym (sets r) ∙ ap (λ x. value_at x r) same ∙ is)
+  below_by t rs r us false e is = absurd (let gap : None ≡ Some rs = e in cc)
+
+  pub stored_table : IsTable (one_text vs key old) → IsTable (one_text vs key new)
+  stored_table t = record { all = t.all; below = λ k rs r us e is. below_by t rs r us _ e is }
 
 -- ---- a text goes
 module _ {T : Type 0} where
@@ -143,16 +149,3 @@ raised vs es i w lt le t = record {
   all = length-set vs i w ∙ t.all;
   below = λ k rs r us e is. let old = t.below k rs r us e is in let up = rises_by vs i (region_index r) w _ refl lt le in omega (arith, old, up);
 }
-
--- ---- a route is stored, or want of memory leaves all
-module _ {T : Type 0} (vs : List ℕ) (es fs : List (List ℕ × OfText T)) (key : List ℕ) (p : Spot) (route : T) (current : p.version ≡ version_of p.dst (vs, es)) where
-  sets_now : (g : GivesText es fs key p route) (r : Region) → value_at g.rs r ≡ cond (is_at (nat_cmp (region_index p.dst)) (region_index r)) (Some (with_route (version_of p.dst (vs, es)) p.src p.node route (unwrap_or (routes_to p.dst (at_text key es)) no_routes))) (routes_to r (at_text key es))
-  sets_now g r = g.sets r ∙ ap (λ v. cond (is_at (nat_cmp (region_index p.dst)) (region_index r)) (Some (with_route v p.src p.node route (unwrap_or (routes_to p.dst (at_text key es)) no_routes))) (routes_to r (at_text key es))) current
-
-  pub stored_table : {A E : Type 0} (r : Result A E) → OnOk r (GivesText es fs key p route) → OnErr r (fs ≡ es) → IsTable (vs, es) → IsTable (vs, fs)
-  stored_table (Ok x) g err t = record { all = t.all; below = below (vs, es) (vs, fs) key p.dst p.src p.node route g.rs g.texts (sets_now g) refl t.below }
-  stored_table (Err e) ok err t = subst (λ x. IsTable (vs, x)) (sym err) t
-
-  pub stored_stores : {A E : Type 0} (r : Result A E) → OnOk r (GivesText es fs key p route) → (old : Table T) → (vs, es) ≡ old → OnOk r (Stores old (vs, fs) p.dst key p.src p.node route)
-  stored_stores (Ok x) g old is = subst (λ o. Stores o (vs, fs) p.dst key p.src p.node route) is (stores (vs, es) (vs, fs) key p.dst p.src p.node route g.rs g.texts (sets_now g) refl)
-  stored_stores (Err e) ok old is = tt

@@ -1,5 +1,5 @@
 -- What a contract sees of a `RouteTable`.
-use Rattle.std.specs.Prelude.{◌≡◌, ℕ, ◌≤◌, ◌&&◌, Bool, false, true, List, Option, None, Some, length, slice_index, if◌then◌else◌}
+use Rattle.std.specs.Prelude.{◌≡◌, ℕ, ◌≤◌, ◌&&◌, Bool, false, true, List, [], ◌∷◌, Option, None, Some, length, slice_index, if◌then◌else◌}
 use Rattle.std.specs.Map.{lookup}
 use Rattle.std.specs.BTreeMap.{is_at}
 use Rattle.std.specs.Ordering.{nat_cmp}
@@ -35,6 +35,10 @@ module _ {T : Type 0} where
   -- the routes to a region
   abbrev pub routes_to : Region → Option (OfText T) → Option (Under T)
   routes_to dst rs = routes_at (region_index dst) rs
+
+  -- a table of one text
+  abbrev pub one_text : List ℕ → List ℕ → OfText T → Table T
+  one_text versions key rs = (versions, (key, rs) ∷ [])
 
   -- the route to an origin of routes that may be none
   abbrev pub route_in : ℕ → Region → ℕ → Option (Under T) → Option T

@@ -16,8 +16,8 @@ ghost use Rattle.zq_tables.specs.Naming.{has_context as has_context_of};
 ghost use Rattle.zq_kept.specs.Current.{AreCurrent, ArePlaced, IsKeptFor, KeepsNamed};
 ghost use Rattle.zq_kept.specs.Table.{Fewer, route_of};
 
-use crate::asking::{Asking, KeptOffers};
-use crate::offers::{FEW_TEXTS, kept_at, let_go, make_room, none_kept, offers_for};
+use crate::asking::Asking;
+use crate::offers::{FEW_TEXTS, KeptOffers, kept_at, let_go, make_room, none_kept, offers_for};
 use std::alloc::Global;
 use std::marker::Model;
 use zq_key::memory::OutOfMemory;

@@ -1,5 +1,5 @@
 //! The offers of a request, by those that are kept, and what becomes of these.
-ghost use Rattle.std.specs.Prelude.{◌≡◌, ◌<◌, ◌≤◌, ◌+◌, ◌*◌, ℕ, List, [], length, true, false, IfOk, OnOk, IfSome, Some, IsTrue, map, option_copied};
+ghost use Rattle.std.specs.Prelude.{◌≡◌, ◌<◌, ◌≤◌, ◌+◌, ◌*◌, ℕ, List, [], length, true, false, IfOk, OnOk, IfSome, None, Some, IsTrue, map, option_copied};
 ghost use Rattle.std.specs.List.{All};
 ghost use Rattle.std.specs.Map.{values_of};
 ghost use Rattle.zq_key.specs.Key.{is_key as key_of};
@@ -13,11 +13,13 @@ ghost use Rattle.zq_route.specs.Selection.{joined, picked, with_offers};
 ghost use Rattle.zq_strategy.specs.Offers.{offers_of};
 ghost use Rattle.zq_strategy.specs.State.{HatState};
 ghost use Rattle.zq_tables.specs.Naming.{has_context as has_context_of};
+ghost use Rattle.zq_index.specs.Texts.{at_text};
 ghost use Rattle.zq_kept.specs.Current.{AreCurrent, ArePlaced, IsKeptFor, Keeps};
 ghost use Rattle.zq_kept.specs.Table.{Fewer, NamedStay, OnlyNamed, route_of};
 
-use crate::asking::{Asking, KeptOffers};
-use crate::pick::route;
+use crate::asking::Asking;
+use crate::fill::{Choice, picked, select};
+use crate::table::RouteTable;
 use std::alloc::Global;
 use zq_dispatcher::hats::is_region;
 use zq_key::memory::OutOfMemory;
@@ -25,6 +27,9 @@ use zq_key::message::{NodeId, QueryTarget, Region};
 use zq_route::selection::Best;
 use zq_strategy::types::{OfferList, QueryTargetQabl};
 use zq_tables::naming::Naming;
+
+/// The offers that are kept: what each region offers on a text to what a region's node asks.
+pub type KeptOffers = RouteTable<OfferList>;
 
 // So many texts are not worth a look at all of them.
 pub(crate) const FEW_TEXTS: usize = 64;
@@ -37,79 +42,65 @@ pub fn none_kept(alloc: Global) -> Result<KeptOffers, OutOfMemory>
     KeptOffers::new(alloc)
 }
 
-/// Where the names have the key's node, what regions offer the asker on it is kept from then on. After want
-/// of memory some of it may be.
-pub fn keep_if_named(
+// The offers of the asker's request on a text that has no routes. Where the names have its node, these are
+// stored.
+fn offers_first(
     asking: &Asking,
     names: &Naming,
     kept: &mut KeptOffers,
-) -> Result<(), OutOfMemory>
+    choice: Choice,
+) -> Result<Vec<QueryTargetQabl>, OutOfMemory>
     requires key { IsTrue (key_of asking.now.key.now) }
     requires src { HasIndex asking.now.asker.opened.region }
     requires placed { ArePlaced asking.now.hats.now }
     requires current { AreCurrent kept.old asking.now.hats.now }
+    requires absent { at_text asking.now.key.now kept.old.1 ≡ None }
+    ensures offers { IfOk result (λ v. v.items ≡ values_of (with_offers [] (picked choice.best choice.target (parts_for (asker_of asking.now.asker) asking.now.key.now (values_of asking.now.hats.now))))) }
     ensures kept { OnOk result (has_context_of asking.now.key.now names.now ≡ true → All (IsKeptFor (asker_of asking.now.asker) asking.now.key.now kept.new) (values_of asking.now.hats.now)) }
     ensures current { AreCurrent kept.new asking.now.hats.now }
     ensures keeps { Keeps kept.old kept.new }
     ensures unnamed { has_context_of asking.now.key.now names.now ≡ false → kept.new ≡ kept.old }
 {
     if !names.has_context(asking.key) {
-        return Ok(());
+        return select(asking, kept.alloc(), choice);
     }
-    asking.keep_routes(kept)
+    kept.fill_first(asking, choice)
 }
 
-// The offers that the asker's request is handed to under a choice, of each face one, if a list of each
-// region is kept for it.
-#[tactic(auto, using(zq_machine::proofs::Routes::route_distinct, zq_egress::proofs::Selected::parts_of, zq_egress::proofs::Selected::takes_nearest))]
-fn select_kept(
+// The offers of the asker's request, by the routes that its text has. Where they lack a list and the names
+// have the text's node, what they lack is stored.
+fn offers_chosen(
     asking: &Asking,
-    alloc: Global,
-    kept: &KeptOffers,
-    target: QueryTarget,
-    best: Best,
-) -> Result<Option<Vec<QueryTargetQabl>>, OutOfMemory>
-    requires src { HasIndex asking.now.asker.opened.region }
-    requires placed { ArePlaced asking.now.hats.now }
-    requires current { AreCurrent kept.now asking.now.hats.now }
-    ensures offers { IfOk result (λ o. IfSome o (λ v. v.items ≡ values_of (with_offers [] (picked best target (parts_for (asker_of asking.now.asker) asking.now.key.now (values_of asking.now.hats.now)))))) }
-    ensures distinct { IfOk result (λ o. IfSome o (λ v. are_distinct (face_numbers (map target_of v.items)) ≡ true)) }
-    ensures nearest { IfOk result (λ o. IfSome o (λ v. TakesNearest best target (joined (parts_for (asker_of asking.now.asker) asking.now.key.now (values_of asking.now.hats.now))) v.items)) }
-    ensures kept { IfOk result (λ o. IfSome o (λ _. All (IsKeptFor (asker_of asking.now.asker) asking.now.key.now kept.now) (values_of asking.now.hats.now))) }
-{
-    let Some(lists) = asking.lists(alloc, kept)? else {
-        return Ok(None);
-    };
-    Ok(Some(route(&asking.asker, alloc, lists.as_slice(), target, best)?.build()))
-}
-
-/// The offers that the asker's request is handed to under a choice, of each face one: what `Asker::select`
-/// answers, by the lists that are kept where there is one of each region.
-pub fn select_by(
-    asking: &Asking,
-    alloc: Global,
-    kept: &KeptOffers,
-    target: QueryTarget,
-    best: Best,
+    names: &Naming,
+    kept: &mut KeptOffers,
+    choice: Choice,
 ) -> Result<Vec<QueryTargetQabl>, OutOfMemory>
     requires key { IsTrue (key_of asking.now.key.now) }
     requires src { HasIndex asking.now.asker.opened.region }
     requires placed { ArePlaced asking.now.hats.now }
-    requires current { AreCurrent kept.now asking.now.hats.now }
-    ensures offers { IfOk result (λ v. v.items ≡ values_of (with_offers [] (picked best target (parts_for (asker_of asking.now.asker) asking.now.key.now (values_of asking.now.hats.now))))) }
-    ensures distinct { IfOk result (λ v. are_distinct (face_numbers (map target_of v.items)) ≡ true) }
-    ensures nearest { IfOk result (λ v. TakesNearest best target (joined (parts_for (asker_of asking.now.asker) asking.now.key.now (values_of asking.now.hats.now))) v.items) }
+    requires current { AreCurrent kept.old asking.now.hats.now }
+    ensures offers { IfOk result (λ v. v.items ≡ values_of (with_offers [] (picked choice.best choice.target (parts_for (asker_of asking.now.asker) asking.now.key.now (values_of asking.now.hats.now))))) }
+    ensures kept { OnOk result (has_context_of asking.now.key.now names.now ≡ true → All (IsKeptFor (asker_of asking.now.asker) asking.now.key.now kept.new) (values_of asking.now.hats.now)) }
+    ensures current { AreCurrent kept.new asking.now.hats.now }
+    ensures keeps { Keeps kept.old kept.new }
+    ensures unnamed { has_context_of asking.now.key.now names.now ≡ false → kept.new ≡ kept.old }
 {
-    match select_kept(asking, alloc, kept, target, best)? {
-        Some(offers) => Ok(offers),
-        None => asking
-            .asker
-            .select(alloc, asking.hats, asking.key, target, best),
+    let alloc = kept.alloc();
+    let Some(routes) = kept.of_text(asking.key) else {
+        return offers_first(asking, names, kept, choice);
+    };
+    if let Some(lists) = asking.lists_in(alloc, kept.versions(), routes)? {
+        return picked(asking, alloc, lists.as_slice(), choice);
     }
+    if !names.has_context(asking.key) {
+        return select(asking, alloc, choice);
+    }
+    kept.fill_beside(asking, choice)
 }
 
 /// The offers that the asker's request on a key is handed to under a choice, of each face one. Where the
 /// names have the key's node, what regions offer on it is kept from then on; want of memory answers so.
+#[tactic(auto, using(zq_machine::proofs::Routes::route_distinct, zq_egress::proofs::Selected::takes_nearest))]
 pub fn offers_for(
     asking: &Asking,
     names: &Naming,
@@ -129,12 +120,7 @@ pub fn offers_for(
     ensures keeps { Keeps kept.old kept.new }
     ensures unnamed { has_context_of asking.now.key.now names.now ≡ false → kept.new ≡ kept.old }
 {
-    let alloc = kept.alloc();
-    if let Some(offers) = select_kept(asking, alloc, kept, target, best)? {
-        return Ok(offers);
-    }
-    keep_if_named(asking, names, kept)?;
-    select_by(asking, alloc, kept, target, best)
+    offers_chosen(asking, names, kept, Choice { target, best })
 }
 
 /// No offers of the region are kept any more, whose hat has changed. It takes no memory.

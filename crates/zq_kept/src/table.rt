@@ -1,28 +1,31 @@
 //! The routes of texts, by the region that they lead to.
-ghost use Rattle.std.specs.Prelude.{◌≡◌, ◌<◌, ℕ, List, [], None, Some, IfOk, OnOk, OnErr, is_some, true, option_copied, length, if◌then◌else◌, string_bytes};
+ghost use Rattle.std.specs.Prelude.{◌≡◌, ◌<◌, ℕ, List, [], None, Some, IfOk, IsTrue, OnOk, is_some, true, option_copied, length, if◌then◌else◌, string_bytes};
+ghost use Rattle.std.specs.List.{All};
+ghost use Rattle.std.specs.BTreeMap.{is_at};
+ghost use Rattle.std.specs.Map.{remove_entry, values_of};
+ghost use Rattle.zq_key.specs.Key.{is_key as key_of};
 ghost use Rattle.zq_message.specs.declared.message.Region.{Region};
 ghost use Rattle.zq_message.specs.Region.{HasIndex};
-ghost use Rattle.zq_message.specs.RegionMap.{value_at};
 ghost use Rattle.zq_index.specs.Texts.{at_text, text_cmp, texts_of};
-ghost use Rattle.std.specs.BTreeMap.{is_at};
-ghost use Rattle.std.specs.Map.{remove_entry};
 ghost use Rattle.zq_tables.specs.Naming.{has_context};
-ghost use Rattle.zq_kept.specs.Table.{Fewer, NamedRoutes, OnlyNamed, OtherTexts, Others, Stores, route_in, route_of, version_of};
-ghost use Rattle.zq_kept.specs.Parts.{GivesText, SetsIn};
+ghost use Rattle.zq_route.specs.Selection.{picked, with_offers};
+ghost use Rattle.zq_machine.specs.Selecting.{parts_for};
+ghost use Rattle.zq_egress.specs.Askers.{asker_of};
+ghost use Rattle.zq_kept.specs.Current.{AreCurrent, ArePlaced, IsKeptFor, Keeps};
+ghost use Rattle.zq_kept.specs.Table.{Fewer, NamedRoutes, OnlyNamed, OtherTexts, Others, route_of, version_of};
 
+use crate::asking::Asking;
+use crate::fill::{Choice, fill_beside, fill_first};
+use crate::text::{INDICES, Spot, TextRoutes, route_in, version_in};
 use std::alloc::Global;
 use std::collections::BTreeMap;
 use std::marker::Model;
 use zq_message::memory::OutOfMemory;
 use zq_message::message::{NodeId, Region};
-use zq_message::{RegionMap, region_to_index};
-use zq_route::{Routes, RoutesVersion};
+use zq_message::region_to_index;
+use zq_route::RoutesVersion;
+use zq_strategy::types::{OfferList, QueryTargetQabl};
 use zq_tables::naming::Naming;
-
-/// The routes of one text, by the region that they lead to.
-pub type TextRoutes<T> = RegionMap<Routes<T>>;
-
-const INDICES: usize = 770;
 
 /// The routes of texts, by the region that they lead to, each under that region's version.
 pub struct RouteTable<T> {
@@ -50,118 +53,6 @@ impl<T> Model for RouteTable<T> {
     ghost view = { λ t. (t.versions.items, texts_of t.texts.entries) };
 
     ghost invariant = { λ t. IsTable (t.versions.items, texts_of t.texts.entries) };
-}
-
-/// Where a route of a text is stored: under which version of the region that it leads to, and for which
-/// region's node that asks.
-#[derive(Clone, Copy)]
-pub(crate) struct Spot {
-    version: RoutesVersion,
-    dst: Region,
-    src: Region,
-    node: NodeId,
-}
-
-// The region's routes are there already.
-fn set_beside<T: Drop>(regions: &mut TextRoutes<T>, spot: Spot, route: T) -> Result<(), OutOfMemory>
-    requires dst { HasIndex spot.dst }
-    requires src { HasIndex spot.src }
-    requires there { is_some (value_at regions.old spot.dst) ≡ true }
-    ensures ok { OnOk result (SetsIn regions.old regions.new spot route) }
-    ensures err { OnErr result (regions.new ≡ regions.old) }
-{
-    match regions.get_mut(&spot.dst) {
-        Some(routes) => match routes.set_route(spot.version, &spot.src, spot.node, route) {
-            Ok(()) => Ok(()),
-            Err(error) => Err(error),
-        },
-        None => unreachable!(),
-    }
-}
-
-// The first route to the region.
-fn set_first<T: Drop>(
-    alloc: Global,
-    regions: &mut TextRoutes<T>,
-    spot: Spot,
-    route: T,
-) -> Result<(), OutOfMemory>
-    requires dst { HasIndex spot.dst }
-    requires src { HasIndex spot.src }
-    requires absent { value_at regions.old spot.dst ≡ None }
-    ensures ok { OnOk result (SetsIn regions.old regions.new spot route) }
-    ensures err { OnErr result (regions.new ≡ regions.old) }
-{
-    let mut routes = Routes::new(alloc);
-    routes.set_route(spot.version, &spot.src, spot.node, route)?;
-    regions.insert(spot.dst, routes)?;
-    Ok(())
-}
-
-// A route to the region.
-fn set_in<T: Drop>(
-    alloc: Global,
-    regions: &mut TextRoutes<T>,
-    spot: Spot,
-    route: T,
-) -> Result<(), OutOfMemory>
-    requires dst { HasIndex spot.dst }
-    requires src { HasIndex spot.src }
-    ensures ok { OnOk result (SetsIn regions.old regions.new spot route) }
-    ensures err { OnErr result (regions.new ≡ regions.old) }
-{
-    if regions.get(&spot.dst).is_some() {
-        return set_beside(regions, spot, route);
-    }
-    set_first(alloc, regions, spot, route)
-}
-
-// A text that has routes gets one.
-#[tactic(auto, using(zq_index::proofs::Texts::text_lookup, zq_index::proofs::Texts::text_set))]
-fn put_beside<T: Drop>(
-    alloc: Global,
-    texts: &mut BTreeMap<String, TextRoutes<T>>,
-    key: &str,
-    spot: Spot,
-    route: T,
-) -> Result<(), OutOfMemory>
-    requires dst { HasIndex spot.dst }
-    requires src { HasIndex spot.src }
-    requires there { is_some (at_text key.now (texts_of texts.old.entries)) ≡ true }
-    ensures ok { OnOk result (GivesText (texts_of texts.old.entries) (texts_of texts.new.entries) key.now spot route) }
-    ensures err { OnErr result (texts_of texts.new.entries ≡ texts_of texts.old.entries) }
-{
-    match texts.get_mut(key) {
-        Some(regions) => match set_in(alloc, regions, spot, route) {
-            Ok(()) => Ok(()),
-            Err(error) => Err(error),
-        },
-        None => unreachable!(),
-    }
-}
-
-// A text that has no routes gets one.
-#[tactic(auto, using(zq_index::proofs::Texts::text_lookup, zq_index::proofs::Texts::text_insert))]
-fn put_first<T: Drop>(
-    alloc: Global,
-    texts: &mut BTreeMap<String, TextRoutes<T>>,
-    key: &str,
-    spot: Spot,
-    route: T,
-) -> Result<(), OutOfMemory>
-    requires dst { HasIndex spot.dst }
-    requires src { HasIndex spot.src }
-    requires absent { at_text key.now (texts_of texts.old.entries) ≡ None }
-    ensures ok { OnOk result (GivesText (texts_of texts.old.entries) (texts_of texts.new.entries) key.now spot route) }
-    ensures err { OnErr result (texts_of texts.new.entries ≡ texts_of texts.old.entries) }
-{
-    let text = String::from_str(alloc, key)?;
-    let mut regions = RegionMap::new(alloc);
-    set_first(alloc, &mut regions, spot, route)?;
-    match texts.insert(text, regions) {
-        Ok(_) => Ok(()),
-        Err(_) => Err(OutOfMemory),
-    }
 }
 
 // The text goes.
@@ -210,18 +101,12 @@ impl<T> RouteTable<T> {
         self.texts.len()
     }
 
-    fn version(&self, dst: &Region) -> RoutesVersion
-        requires { HasIndex dst.now }
-        ensures { result ≡ version_of dst.now self.now }
+    /// The version of each region.
+    pub(crate) fn versions(&self) -> &[RoutesVersion]
+        ensures versions { result.now ≡ self.now.0 }
+        ensures all { length self.now.0 ≡ 770 }
     {
-        self.versions[region_to_index(dst)]
-    }
-
-    #[tactic(auto, using(zq_index::proofs::Texts::text_lookup))]
-    fn has(&self, key: &str) -> bool
-        ensures { result ≡ is_some (at_text key.now self.now.1) }
-    {
-        self.texts.contains_key(key)
+        self.versions.as_slice()
     }
 
     /// The routes of a text.
@@ -232,24 +117,6 @@ impl<T> RouteTable<T> {
         self.texts.get(key)
     }
 
-    /// The route to a region, of the routes of a text. It takes no memory.
-    pub fn route_in<'a>(
-        &self,
-        routes: &'a TextRoutes<T>,
-        dst: &Region,
-        src: &Region,
-        node: NodeId,
-    ) -> Option<&'a T>
-        requires dst { HasIndex dst.now }
-        requires src { HasIndex src.now }
-        ensures { option_copied result ≡ route_in (version_of dst.now self.now) src.now node (value_at routes.now dst.now) }
-    {
-        match routes.get(dst) {
-            Some(routes) => routes.get_route(self.version(dst), src, node),
-            None => None,
-        }
-    }
-
     /// The route of a text to a region. It takes no memory.
     pub fn get(&self, dst: &Region, key: &str, src: &Region, node: NodeId) -> Option<&T>
         requires dst { HasIndex dst.now }
@@ -257,38 +124,17 @@ impl<T> RouteTable<T> {
         ensures { option_copied result ≡ route_of dst.now key.now src.now node self.now }
     {
         match self.of_text(key) {
-            Some(routes) => self.route_in(routes, dst, src, node),
+            Some(routes) => {
+                let spot = Spot {
+                    version: version_in(self.versions(), dst),
+                    dst: *dst,
+                    src: *src,
+                    node,
+                };
+                route_in(routes, spot)
+            }
             None => None,
         }
-    }
-
-    /// Stores the route of a text to a region, under the region's version. Where memory is lacking
-    /// nothing changes.
-    pub fn store(
-        &mut self,
-        dst: &Region,
-        key: &str,
-        src: &Region,
-        node: NodeId,
-        route: T,
-    ) -> Result<(), OutOfMemory>
-    where
-        T: Drop,
-        requires dst { HasIndex dst.now }
-        requires src { HasIndex src.now }
-        ensures ok { OnOk result (Stores self.old self.new dst.now key.now src.now node route) }
-        ensures err { OnErr result (self.new ≡ self.old) }
-    {
-        let spot = Spot {
-            version: self.version(dst),
-            dst: *dst,
-            src: *src,
-            node,
-        };
-        if self.has(key) {
-            return put_beside(self.alloc, &mut self.texts, key, spot, route);
-        }
-        put_first(self.alloc, &mut self.texts, key, spot, route)
     }
 
     /// No route to the region stands any more. Those to other regions stay, unless the region's version was
@@ -330,5 +176,57 @@ impl<T> RouteTable<T> {
         ensures routes { NamedRoutes self.old self.new names.now }
     {
         retain_named(&mut self.texts, names);
+    }
+}
+
+impl RouteTable<OfferList> {
+    /// The offers of the asker's request on a text that has routes, once what these lack is stored.
+    pub(crate) fn fill_beside(
+        &mut self,
+        asking: &Asking,
+        choice: Choice,
+    ) -> Result<Vec<QueryTargetQabl>, OutOfMemory>
+        requires key { IsTrue (key_of asking.now.key.now) }
+        requires src { HasIndex asking.now.asker.opened.region }
+        requires placed { ArePlaced asking.now.hats.now }
+        requires current { AreCurrent self.old asking.now.hats.now }
+        requires there { is_some (at_text asking.now.key.now self.old.1) ≡ true }
+        ensures offers { IfOk result (λ v. v.items ≡ values_of (with_offers [] (picked choice.best choice.target (parts_for (asker_of asking.now.asker) asking.now.key.now (values_of asking.now.hats.now))))) }
+        ensures kept { OnOk result (All (IsKeptFor (asker_of asking.now.asker) asking.now.key.now self.new) (values_of asking.now.hats.now)) }
+        ensures current { AreCurrent self.new asking.now.hats.now }
+        ensures keeps { Keeps self.old self.new }
+    {
+        fill_beside(
+            asking,
+            self.alloc,
+            self.versions.as_slice(),
+            &mut self.texts,
+            choice,
+        )
+    }
+
+    /// The offers of the asker's request on a text that has no routes, once these are stored.
+    pub(crate) fn fill_first(
+        &mut self,
+        asking: &Asking,
+        choice: Choice,
+    ) -> Result<Vec<QueryTargetQabl>, OutOfMemory>
+        requires key { IsTrue (key_of asking.now.key.now) }
+        requires src { HasIndex asking.now.asker.opened.region }
+        requires placed { ArePlaced asking.now.hats.now }
+        requires current { AreCurrent self.old asking.now.hats.now }
+        requires absent { at_text asking.now.key.now self.old.1 ≡ None }
+        ensures offers { IfOk result (λ v. v.items ≡ values_of (with_offers [] (picked choice.best choice.target (parts_for (asker_of asking.now.asker) asking.now.key.now (values_of asking.now.hats.now))))) }
+        ensures kept { OnOk result (All (IsKeptFor (asker_of asking.now.asker) asking.now.key.now self.new) (values_of asking.now.hats.now)) }
+        ensures current { AreCurrent self.new asking.now.hats.now }
+        ensures keeps { Keeps self.old self.new }
+    {
+        fill_first(
+            asking,
+            self.alloc,
+            self.versions.as_slice(),
+            &mut self.texts,
+            choice,
+        )
     }
 }

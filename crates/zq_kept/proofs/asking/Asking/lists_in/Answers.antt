@@ -6,6 +6,7 @@ use Rattle.zq_egress.specs.Askers.{asker_of}
 use Rattle.zq_machine.specs.Selecting.{offers_to}
 use Rattle.zq_kept.specs.Current.{IsKeptFor, StandsAt}
 use Rattle.zq_kept.specs.Picked.{lists_of}
+use Rattle.zq_kept.specs.Table.{one_text}
 use Rattle.zq_kept.proofs.Current.{pushed}
 use Rattle.zq_kept.proofs.asking.Asking.lists_in.Goals as goal
 
@@ -14,7 +15,7 @@ loop-hat-preserved c =
     let F = offers_to (asker_of c.args.self.now.asker) c.args.self.now.key.now in
     let S : HatState → Type 0 = StandsAt c.args.self.now.hats.now in
     let AllS : List HatState → Type 0 = All S in
-    let P : HatState → Type 0 = IsKeptFor (asker_of c.args.self.now.asker) c.args.self.now.key.now c.args.kept.now in
+    let P : HatState → Type 0 = IsKeptFor (asker_of c.args.self.now.asker) c.args.self.now.key.now (one_text c.args.versions.now c.args.self.now.key.now c.args.routes.now) in
     let AllP : List HatState → Type 0 = All P in
     let steps = c.in-Some.ensures.steps in
     let rest = c.next.new.self in

@@ -9,7 +9,7 @@ use Rattle.zq_message.specs.RegionMap.{value_at}
 use Rattle.zq_key.proofs.Lookups.{found_after_insertion}
 use Rattle.zq_route.specs.Routes.{with_route}
 use Rattle.zq_kept.specs.Parts.{no_routes}
-use Rattle.zq_kept.proofs.table.set_first.Goals as goal
+use Rattle.zq_kept.proofs.text.set_first.Goals as goal
 
 pub returns-clause-ok : goal.returns-clause-ok
 returns-clause-ok g c r =

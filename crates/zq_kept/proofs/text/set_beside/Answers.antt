@@ -11,7 +11,7 @@ use Rattle.zq_message.specs.RegionMap.{value_at}
 use Rattle.zq_key.proofs.Lookups.{found_after_write}
 use Rattle.zq_route.specs.Routes.{with_route}
 use Rattle.zq_kept.specs.Parts.{no_routes}
-use Rattle.zq_kept.proofs.table.set_beside.Goals as goal
+use Rattle.zq_kept.proofs.text.set_beside.Goals as goal
 
 pub returns-in-Ok-clause-ok : goal.returns-in-Ok-clause-ok
 returns-in-Ok-clause-ok g c r =
