@@ -18,7 +18,7 @@ use Rattle.zq_strategy.specs.State.{HatState}
 use Rattle.zq_machine.specs.Selecting.{AskerState}
 use Rattle.zq_machine.specs.State.{hat_at}
 use Rattle.zq_kept.specs.Current.{AreCurrent, IsKeptFor, Keeps, node_for}
-use Rattle.zq_kept.specs.Table.{Fewer, IsTable, OfText, Under, one_text, route_in, route_of, routes_to}
+use Rattle.zq_kept.specs.Table.{Fewer, IsTable, OfText, OtherTexts, Under, one_text, route_in, route_of, routes_to}
 
 module _ {T : Type 0} (vs : List ℕ) (key : List ℕ) where
   -- what is found of a text's routes, where the text is the one that is looked for
@@ -75,6 +75,9 @@ module _ {T : Type 0} (vs : List ℕ) (key : List ℕ) where
         ap (λ o. route_in (slice_index vs (region_index r)) s n (routes_to r o)) (texts k ∙ ap (λ b. cond b (Some rs) (at_text k es)) eb)
         ∙ sym (at_key rs r k s n true eb)
     found_by r k s n false eb = ap (λ o. route_in (slice_index vs (region_index r)) s n (routes_to r o)) (texts k ∙ ap (λ b. cond b (Some rs) (at_text k es)) eb)
+
+    pub given_others : OtherTexts (vs, es) (vs, fs) key
+    given_others r k s n apart = found_by r k s n false apart
 
     given_by : IsTable (vs, es) → IsTable (one_text vs key rs) → (k : List ℕ) (qs : OfText T) (r : Region) (us : Under T) (b : Bool) → cond b (Some rs) (at_text k es) ≡ Some qs → value_at qs r ≡ Some us → us.0 ≤ slice_index vs (region_index r)
     given_by t one k qs r us true e is = one.below key qs r us (ap (λ b. cond b (Some rs) None) (at_itself text_total exact_bytes key) ∙ e) is

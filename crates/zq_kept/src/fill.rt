@@ -11,7 +11,7 @@ ghost use Rattle.zq_message.specs.Region.{HasIndex};
 ghost use Rattle.zq_route.specs.Selection.{picked, with_offers};
 ghost use Rattle.zq_kept.specs.Current.{AreCurrent, ArePlaced, IsKeptFor, Keeps};
 ghost use Rattle.zq_kept.specs.Picked.{lists_of};
-ghost use Rattle.zq_kept.specs.Table.{IsTable, one_text};
+ghost use Rattle.zq_kept.specs.Table.{IsTable, OtherTexts, one_text};
 
 use crate::asking::Asking;
 use crate::pick::route;
@@ -106,6 +106,7 @@ pub(crate) fn fill_beside(
     ensures table { IsTable (versions.now, texts_of texts.new.entries) }
     ensures current { AreCurrent (versions.now, texts_of texts.new.entries) asking.now.hats.now }
     ensures keeps { Keeps (versions.now, texts_of texts.old.entries) (versions.now, texts_of texts.new.entries) }
+    ensures others { OtherTexts (versions.now, texts_of texts.old.entries) (versions.now, texts_of texts.new.entries) asking.now.key.now }
 {
     match texts.get_mut(asking.key) {
         Some(routes) => fill(asking, alloc, versions, routes, choice),
@@ -132,6 +133,7 @@ pub(crate) fn fill_first(
     ensures table { IsTable (versions.now, texts_of texts.new.entries) }
     ensures current { AreCurrent (versions.now, texts_of texts.new.entries) asking.now.hats.now }
     ensures keeps { Keeps (versions.now, texts_of texts.old.entries) (versions.now, texts_of texts.new.entries) }
+    ensures others { OtherTexts (versions.now, texts_of texts.old.entries) (versions.now, texts_of texts.new.entries) asking.now.key.now }
 {
     let text = String::from_str(alloc, asking.key)?;
     let mut routes = RegionMap::new(alloc);

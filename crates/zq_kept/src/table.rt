@@ -195,6 +195,7 @@ impl RouteTable<OfferList> {
         ensures kept { OnOk result (All (IsKeptFor (asker_of asking.now.asker) asking.now.key.now self.new) (values_of asking.now.hats.now)) }
         ensures current { AreCurrent self.new asking.now.hats.now }
         ensures keeps { Keeps self.old self.new }
+        ensures others { OtherTexts self.old self.new asking.now.key.now }
     {
         fill_beside(
             asking,
@@ -220,6 +221,7 @@ impl RouteTable<OfferList> {
         ensures kept { OnOk result (All (IsKeptFor (asker_of asking.now.asker) asking.now.key.now self.new) (values_of asking.now.hats.now)) }
         ensures current { AreCurrent self.new asking.now.hats.now }
         ensures keeps { Keeps self.old self.new }
+        ensures others { OtherTexts self.old self.new asking.now.key.now }
     {
         fill_first(
             asking,

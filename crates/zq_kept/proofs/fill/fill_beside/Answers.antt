@@ -11,7 +11,7 @@ use Rattle.zq_index.proofs.Texts.{text_lookup, text_set}
 use Rattle.zq_egress.specs.Askers.{asker_of}
 use Rattle.zq_kept.specs.Table.{one_text}
 use Rattle.zq_kept.proofs.Current.{fewer_current}
-use Rattle.zq_kept.proofs.OneText.{given_current, given_keeps, given_kept, given_table, one_fewer, one_table}
+use Rattle.zq_kept.proofs.OneText.{given_current, given_keeps, given_kept, given_others, given_table, one_fewer, one_table}
 use Rattle.zq_kept.proofs.fill.fill_beside.Goals as goal
 
 pub fill-requires-clause-table : goal.fill-requires-clause-table
@@ -70,3 +70,12 @@ returns-clause-kept c =
     (λ k. ap (at_text k) (ap texts_of (c.get_mut.follows.holds rs).0 ∙ text_set (is_at (text_cmp key)) c.args.texts.now.entries rs) ∙ found_after_write text_total exact_bytes key k rs es (subst IsSome (sym there) refl))
     (asker_of c.args.asking.now.asker) (values_of c.args.asking.now.hats.now))
     c.fill.ensures.kept
+
+pub returns-clause-others : goal.returns-clause-others
+returns-clause-others c =
+    let es = texts_of c.args.texts.now.entries in
+    let key = c.args.asking.now.key.now in
+    let rs = c.fill.new.routes in
+    let there : at_text key es ≡ Some c.in-Some.routes.now = text_lookup (is_at (text_cmp key)) c.args.texts.now.entries ∙ sym c.in-Some.ensures.value in
+    given_others c.args.versions.now key es _ rs
+    (λ k. ap (at_text k) (ap texts_of (c.get_mut.follows.holds rs).0 ∙ text_set (is_at (text_cmp key)) c.args.texts.now.entries rs) ∙ found_after_write text_total exact_bytes key k rs es (subst IsSome (sym there) refl))

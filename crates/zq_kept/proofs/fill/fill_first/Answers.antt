@@ -10,7 +10,7 @@ use Rattle.zq_egress.specs.Askers.{asker_of}
 use Rattle.zq_kept.specs.Current.{AreCurrent}
 use Rattle.zq_kept.specs.Table.{IsTable, one_text}
 use Rattle.zq_kept.proofs.Current.{fewer_current}
-use Rattle.zq_kept.proofs.OneText.{empty_fewer, empty_table, first_keeps, given_current, given_kept, given_table}
+use Rattle.zq_kept.proofs.OneText.{empty_fewer, empty_table, first_keeps, given_current, given_kept, given_others, given_table}
 use Rattle.zq_kept.proofs.fill.fill_first.Goals as goal
 
 pub fill-requires-clause-table : goal.fill-requires-clause-table
@@ -62,3 +62,11 @@ returns-in-Ok-clause-kept c =
     given_kept c.args.versions.now key es _ rs
     (λ k. ap (at_text k) (ap texts_of c.in-Ok.ensures.entries ∙ text_insert c.in_ok-text.text rs c.args.texts.now.entries) ∙ found_after_insertion text_total exact_bytes _ k rs es ∙ ap (λ b. cond (is_at (text_cmp b) k) (Some rs) (at_text k es)) c.in_ok-text.ensures.ok)
     (asker_of c.args.asking.now.asker) (values_of c.args.asking.now.hats.now) c.in_ok-offers.ensures.kept
+
+pub returns-in-Ok-clause-others : goal.returns-in-Ok-clause-others
+returns-in-Ok-clause-others c =
+    let es = texts_of c.args.texts.now.entries in
+    let key = c.args.asking.now.key.now in
+    let rs = c.fill.new.routes in
+    given_others c.args.versions.now key es _ rs
+    (λ k. ap (at_text k) (ap texts_of c.in-Ok.ensures.entries ∙ text_insert c.in_ok-text.text rs c.args.texts.now.entries) ∙ found_after_insertion text_total exact_bytes _ k rs es ∙ ap (λ b. cond (is_at (text_cmp b) k) (Some rs) (at_text k es)) c.in_ok-text.ensures.ok)
