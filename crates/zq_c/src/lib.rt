@@ -17,7 +17,7 @@ ghost use Rattle.std.specs.Prelude.{◌≡◌, ◌≢◌, ◌≤◌, ◌↔◌, 
 ghost use Rattle.zq_c.specs.Told.{Becomes, IsAsked, IsGiven, IsOpeningStatus, IsShort};
 ghost use Rattle.zq_machine.specs.declared.call.Call.{Call};
 ghost use Rattle.zq_machine.specs.Headline.{RunPromise};
-ghost use Rattle.zq_trace.specs.Machine.{RunHeadline};
+ghost use Rattle.zq_trace.specs.Machine.{RunHeadline, RunTold};
 ghost use Rattle.zq_spoken.specs.Keys.{including, meeting};
 ghost use Rattle.zq_spoken.specs.Opening.{config_of};
 ghost use Rattle.zq_spoken.specs.Speaker.{Answers, IsNext, IsNoLine, IsSpentBus, IsUnprinted, Tells, opens_bus, opens_gateway, printed};
@@ -74,6 +74,7 @@ pub extern "C" fn zq_proved_open(
 ) -> u32
     ensures ok { result ≡ 0 → IsSomeAnd handle.new.owned.value (λ s. opens_gateway head.now ≡ Ok s) }
     ensures headline { result ≡ 0 → IfOk (config_of head.now) (λ c. (calls : List Call) → RunHeadline c calls) }
+    ensures told { result ≡ 0 → IfOk (config_of head.now) (λ c. (calls : List Call) → RunTold c calls) }
     ensures promise { result ≡ 0 → IfOk (config_of head.now) (λ c. (calls : List Call) → RunPromise c calls) }
     ensures bad { result ≡ 1 → opens_gateway head.now ≡ Err (OpenRefusal.BadLine bad_line.new) }
     ensures in_use { (result ≡ 6) ↔ IsSome handle.old.owned.value }

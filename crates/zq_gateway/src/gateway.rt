@@ -10,7 +10,7 @@ ghost use Rattle.zq_machine.specs.declared.call.Call.TheVariants as call;
 ghost use Rattle.zq_machine.specs.Calls.{declared_call};
 ghost use Rattle.zq_machine.specs.declared.call.Call.{Call};
 ghost use Rattle.zq_machine.specs.Headline.{RunPromise};
-ghost use Rattle.zq_trace.specs.Machine.{RunHeadline};
+ghost use Rattle.zq_trace.specs.Machine.{RunHeadline, RunTold};
 ghost use Rattle.zq_machine.specs.Machine.{after, done, refused_step, step};
 ghost use Rattle.zq_machine.specs.State.{opening_state};
 ghost use Rattle.zq_tables.specs.Naming.{has_context};
@@ -97,10 +97,12 @@ fn let_go(routes: &mut RouteCache, region: Option<Region>, made: &Result<Step, O
 
 impl Gateway {
     /// A gateway of this configuration, before any call. Whatever calls are made on it, one after
-    /// another, their steps keep the headline, and each call the promises of a run.
+    /// another, their steps keep the headline and tell faces what is due to them, and each call keeps
+    /// the promises of a run.
     pub fn new(alloc: Global, config: &Config) -> Result<Gateway, OutOfMemory>
         ensures opening { IfOk result (λ g. g.state ≡ opening_state config.now) }
         ensures headline { IfOk result (λ _. (calls : List Call) → RunHeadline config.now calls) }
+        ensures told { IfOk result (λ _. (calls : List Call) → RunTold config.now calls) }
         ensures promise { IfOk result (λ _. (calls : List Call) → RunPromise config.now calls) }
         ensures valid { IfOk result (λ _. bad_config config.now.entries ≡ None) }
     {

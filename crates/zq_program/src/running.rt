@@ -2,7 +2,7 @@
 ghost use Rattle.std.specs.Prelude.{◌≡◌, ◌≢◌, ◌↔◌, ◌⊎◌, IfOk, IfSome, None, length, map, true};
 ghost use Rattle.std.specs.Io.KnownBytes.{IsAtEnd};
 ghost use Rattle.zq_machine.specs.Headline.{RunPromise};
-ghost use Rattle.zq_trace.specs.Machine.{RunHeadline};
+ghost use Rattle.zq_trace.specs.Machine.{RunHeadline, RunTold};
 ghost use Rattle.zq_io.specs.Streams.{Rose};
 ghost use Rattle.zq_lines.specs.Split.{lines_of};
 ghost use Rattle.zq_script.specs.Script.{script_of};
@@ -50,10 +50,11 @@ pub fn program_outcome<S: Source, K: Sink, L: Link + Send, R: Threads + Wait + S
     ensures unsent { IfSome (sharing_of (length links.old) words.now) (λ s. IfSome (S.left source.old) (λ input. IsBad (script_of s.workers (lines_of input)) → links.new ≡ links.old)) }
     ensures complete { IsReplay words.now → IfSome (S.left source.old) (λ input. IsFit input → (Rose (S.faults source.old) (S.faults source.new) → ⊥) → (Rose (K.faults sink.old) (K.faults sink.new) → ⊥) → EndsWell result.status) }
     ensures completed { IfSome (sharing_of (length links.old) words.now) (λ s. IfSome (S.left source.old) (λ input. IsFitFor s.workers input → (Rose (S.faults source.old) (S.faults source.new) → ⊥) → (Rose (K.faults sink.old) (K.faults sink.new) → ⊥) → (SomeRose (map L.faults links.old) (map L.faults links.new) → ⊥) → EndsWell result.status)) }
-    ensures told { Tells result }
+    ensures tells { Tells result }
     ensures named { IsReplay words.now → IfSome (S.left source.old) (λ input. IfSome result.bad_line (Names 0 input)) }
     ensures named_shared { IfSome (sharing_of (length links.old) words.now) (λ s. IfSome (S.left source.old) (λ input. IfSome result.bad_line (Names s.workers input))) }
     ensures headline { IfSome (S.left source.old) (λ input. IfOk (script_of 0 (lines_of input)) (λ s. RunHeadline s.config (first_part s.parts))) }
+    ensures told { IfSome (S.left source.old) (λ input. IfOk (script_of 0 (lines_of input)) (λ s. RunTold s.config (first_part s.parts))) }
     ensures promise { IfSome (S.left source.old) (λ input. IfOk (script_of 0 (lines_of input)) (λ s. RunPromise s.config (first_part s.parts))) }
 {
     match sharing_of(words, links.len()) {
@@ -94,6 +95,7 @@ pub fn program<S: Source, K: Sink, L: Link + Send, R: Threads + Wait + Sync>(
     ensures complete { IsReplay words.now → IfSome (S.left source.old) (λ input. IsFit input → (Rose (S.faults source.old) (S.faults source.new) → ⊥) → (Rose (K.faults sink.old) (K.faults sink.new) → ⊥) → EndsWell result) }
     ensures completed { IfSome (sharing_of (length links.old) words.now) (λ s. IfSome (S.left source.old) (λ input. IsFitFor s.workers input → (Rose (S.faults source.old) (S.faults source.new) → ⊥) → (Rose (K.faults sink.old) (K.faults sink.new) → ⊥) → (SomeRose (map L.faults links.old) (map L.faults links.new) → ⊥) → EndsWell result)) }
     ensures headline { IfSome (S.left source.old) (λ input. IfOk (script_of 0 (lines_of input)) (λ s. RunHeadline s.config (first_part s.parts))) }
+    ensures told { IfSome (S.left source.old) (λ input. IfOk (script_of 0 (lines_of input)) (λ s. RunTold s.config (first_part s.parts))) }
     ensures promise { IfSome (S.left source.old) (λ input. IfOk (script_of 0 (lines_of input)) (λ s. RunPromise s.config (first_part s.parts))) }
 {
     program_outcome(rt, alloc, words, source, sink, links).status

@@ -77,7 +77,7 @@ fn print_of<L: Link + Send, R: Threads + Wait + Sync>(
     requires bounds { IsSharing (length links.old) sharing }
     ensures print { IfOk result (λ t. MayPrint sharing.slots (script_of sharing.workers (lines_of bytes.now)) t.1) }
     ensures status { IfOk result (λ t. IsSharedEnd t.0.status (script_of sharing.workers (lines_of bytes.now))) }
-    ensures told { IfOk result (λ t. Tells t.0) }
+    ensures tells { IfOk result (λ t. Tells t.0) }
     ensures named { IfOk result (λ t. IfSome t.0.bad_line (Names sharing.workers bytes.now)) }
     ensures sent { IfOk result (λ t. t.0.status ≡ Status.Done → map L.faults links.new ≡ map L.faults links.old) }
     ensures linked { IfOk result (λ t. t.0.status ≡ Status.LinkFault → SomeRose (map L.faults links.old) (map L.faults links.new)) }
@@ -117,7 +117,7 @@ fn answer<K: Sink, L: Link + Send, R: Threads + Wait + Sync>(
     ensures linked { result.status ≡ Status.LinkFault → SomeRose (map L.faults links.old) (map L.faults links.new) }
     ensures idle { is_idle result.status ≡ true → links.new ≡ links.old }
     ensures unsent { IsBad (script_of sharing.workers (lines_of bytes.now)) → links.new ≡ links.old }
-    ensures told { Tells result }
+    ensures tells { Tells result }
     ensures named { IfSome result.bad_line (Names sharing.workers bytes.now) }
     ensures ends { (result.status ≢ Status.Words) × (result.status ≢ Status.ReadFault) × (result.status ≢ Status.TooLong) }
     ensures complete { IsScript (script_of sharing.workers (lines_of bytes.now)) → (Rose (K.faults sink.old) (K.faults sink.new) → ⊥) → (SomeRose (map L.faults links.old) (map L.faults links.new) → ⊥) → EndsWell result.status }
@@ -153,7 +153,7 @@ pub(crate) fn share_source<S: Source, K: Sink, L: Link + Send, R: Threads + Wait
     ensures linked { result.status ≡ Status.LinkFault → SomeRose (map L.faults links.old) (map L.faults links.new) }
     ensures idle { is_idle result.status ≡ true → links.new ≡ links.old }
     ensures unsent { IfSome (S.left source.old) (λ input. IsBad (script_of sharing.workers (lines_of input)) → links.new ≡ links.old) }
-    ensures told { Tells result }
+    ensures tells { Tells result }
     ensures named { IfSome (S.left source.old) (λ input. IfSome result.bad_line (Names sharing.workers input)) }
     ensures ends { result.status ≢ Status.Words }
     ensures complete { IfSome (S.left source.old) (λ input. IsFitFor sharing.workers input → (Rose (S.faults source.old) (S.faults source.new) → ⊥) → (Rose (K.faults sink.old) (K.faults sink.new) → ⊥) → (SomeRose (map L.faults links.old) (map L.faults links.new) → ⊥) → EndsWell result.status) }

@@ -1,4 +1,4 @@
--- Whatever the bytes are, the calls of their script keep the headline, and what each run promises.
+-- Whatever the bytes are, the calls of their script keep the headline, tell faces what is due to them, and keep what each run promises.
 use Rattle.std.proofs.Common.{◌≡◌, refl, ℕ, List, [], ◌∷◌, Option, Some, None}
 use Rattle.std.specs.Prelude.{Result, Ok, Err, IfOk, IfSome}
 use Rattle.zq_message.specs.declared.message.Zid.{Zid}
@@ -8,7 +8,8 @@ use Rattle.zq_machine.specs.declared.config.Entry.{Entry}
 use Rattle.zq_machine.specs.Configs.{Settings, bad_config}
 use Rattle.zq_machine.specs.Headline.{RunPromise}
 use Rattle.zq_machine.proofs.Kept.{headline}
-use Rattle.zq_trace.specs.Machine.{RunHeadline}
+use Rattle.zq_trace.specs.Machine.{RunHeadline, RunTold}
+use Rattle.zq_trace.proofs.Told.{valid_told}
 use Rattle.zq_trace.proofs.Valid.{valid_keep}
 use Rattle.zq_script.specs.declared.script.Script.{Script}
 use Rattle.zq_script.specs.Head.{Head, behind_config, config_of, head_of, headed, unless_bad, with_config}
@@ -57,8 +58,14 @@ lines_promised = of_lines RunPromise (λ config valid. headline config)
 pub lines_kept : (given : Option (List ℕ)) (lines : List ℕ → List (List ℕ)) → IfSome given (λ input. IfOk (script_of 0 (lines input)) (λ s. RunHeadline s.config (first_part s.parts)))
 lines_kept = of_lines RunHeadline valid_keep
 
+pub lines_told : (given : Option (List ℕ)) (lines : List ℕ → List (List ℕ)) → IfSome given (λ input. IfOk (script_of 0 (lines input)) (λ s. RunTold s.config (first_part s.parts)))
+lines_told = of_lines RunTold valid_told
+
 pub promised : (given : Option (List ℕ)) → IfSome given (λ input. IfOk (script_of 0 (lines_of input)) (λ s. RunPromise s.config (first_part s.parts)))
 promised given = lines_promised given lines_of
 
 pub kept : (given : Option (List ℕ)) → IfSome given (λ input. IfOk (script_of 0 (lines_of input)) (λ s. RunHeadline s.config (first_part s.parts)))
 kept given = lines_kept given lines_of
+
+pub told : (given : Option (List ℕ)) → IfSome given (λ input. IfOk (script_of 0 (lines_of input)) (λ s. RunTold s.config (first_part s.parts)))
+told given = lines_told given lines_of

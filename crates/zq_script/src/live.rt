@@ -2,7 +2,7 @@
 ghost use Rattle.std.specs.Prelude.{◌≡◌, ◌≢◌, IfOk, IfSome, OnOk};
 ghost use Rattle.zq_io.specs.Streams.{Rose};
 ghost use Rattle.zq_machine.specs.Headline.{RunPromise};
-ghost use Rattle.zq_trace.specs.Machine.{RunHeadline};
+ghost use Rattle.zq_trace.specs.Machine.{RunHeadline, RunTold};
 ghost use Rattle.zq_lines.specs.Split.{lines_of};
 ghost use Rattle.zq_script.specs.Live.{LeavesLive, IsReplayed, answer_words, answers, bad_words, end_of, good_lines, printed_step};
 ghost use Rattle.zq_script.specs.Running.{first_part};
@@ -117,6 +117,7 @@ pub fn live<S: Source, K: Sink>(alloc: Global, source: &mut S, sink: &mut K) -> 
     ensures write { result ≡ Status.WriteFault → Rose (K.faults sink.old) (K.faults sink.new) }
     ensures quiet { result ≢ Status.WriteFault → K.faults sink.new ≡ K.faults sink.old }
     ensures headline { IfSome (S.left source.old) (λ input. IfOk (script_of 0 (good_lines (answers 1 fresh (lines_of input)))) (λ s. RunHeadline s.config (first_part s.parts))) }
+    ensures told { IfSome (S.left source.old) (λ input. IfOk (script_of 0 (good_lines (answers 1 fresh (lines_of input)))) (λ s. RunTold s.config (first_part s.parts))) }
     ensures promise { IfSome (S.left source.old) (λ input. IfOk (script_of 0 (good_lines (answers 1 fresh (lines_of input)))) (λ s. RunPromise s.config (first_part s.parts))) }
 {
     let mut conversation = Conversation::new();

@@ -3,7 +3,7 @@ ghost use Rattle.std.specs.Prelude.{◌≡◌, ◌≢◌, ◌↔◌, ◌≤◌, 
 ghost use Rattle.std.specs.Fmt.{decimal};
 ghost use Rattle.std.specs.Io.KnownBytes.{IsAtEnd};
 ghost use Rattle.zq_machine.specs.Headline.{RunPromise};
-ghost use Rattle.zq_trace.specs.Machine.{RunHeadline};
+ghost use Rattle.zq_trace.specs.Machine.{RunHeadline, RunTold};
 ghost use Rattle.zq_io.specs.declared.transfer.TheConstants.{LIMIT};
 ghost use Rattle.zq_io.specs.Streams.{Rose};
 ghost use Rattle.zq_lines.specs.Split.{lines_of};
@@ -143,7 +143,7 @@ fn print_of(alloc: Global, bytes: &[u8]) -> Result<(RunOutcome, Bytes), OutOfMem
     ensures print { IfOk result (λ t. t.1 ≡ print_of bytes.now) }
     ensures back { IfOk result (λ _. IfOk (script_of 0 (lines_of bytes.now)) ReadsBack) }
     ensures status { IfOk result (λ t. IsEnd t.0.status (script_of 0 (lines_of bytes.now))) }
-    ensures told { IfOk result (λ t. Tells t.0) }
+    ensures tells { IfOk result (λ t. Tells t.0) }
     ensures named { IfOk result (λ t. IfSome t.0.bad_line (Names 0 bytes.now)) }
 {
     match print_script(alloc, bytes) {
@@ -165,7 +165,7 @@ fn answer<K: Sink>(alloc: Global, bytes: &[u8], sink: &mut K) -> RunOutcome
     ensures quiet { result.status ≢ Status.WriteFault → K.faults sink.new ≡ K.faults sink.old }
     ensures later { K.faults sink.old ≤ K.faults sink.new }
     ensures unwritten { wrote result.status ≡ false → sink.new ≡ sink.old }
-    ensures told { Tells result }
+    ensures tells { Tells result }
     ensures named { IfSome result.bad_line (Names 0 bytes.now) }
     ensures ends { (result.status ≢ Status.Words) × (result.status ≢ Status.ReadFault) × (result.status ≢ Status.TooLong) × (result.status ≢ Status.LinkFault) }
 {
@@ -189,7 +189,7 @@ fn replay<S: Source, K: Sink>(alloc: Global, source: &mut S, sink: &mut K) -> Ru
     ensures write { result.status ≡ Status.WriteFault → Rose (K.faults sink.old) (K.faults sink.new) }
     ensures quiet { result.status ≢ Status.WriteFault → K.faults sink.new ≡ K.faults sink.old }
     ensures unwritten { wrote result.status ≡ false → sink.new ≡ sink.old }
-    ensures told { Tells result }
+    ensures tells { Tells result }
     ensures named { IfSome (S.left source.old) (λ input. IfSome result.bad_line (Names 0 input)) }
     ensures ends { (result.status ≢ Status.Words) × (result.status ≢ Status.LinkFault) }
     ensures complete { IfSome (S.left source.old) (λ input. IsFit input → (Rose (S.faults source.old) (S.faults source.new) → ⊥) → (Rose (K.faults sink.old) (K.faults sink.new) → ⊥) → EndsWell result.status) }
@@ -238,9 +238,10 @@ pub fn run_outcome<S: Source, K: Sink>(
     ensures unwritten { wrote result.status ≡ false → sink.new ≡ sink.old }
     ensures linked { result.status ≢ Status.LinkFault }
     ensures complete { IsReplay words.now → IfSome (S.left source.old) (λ input. IsFit input → (Rose (S.faults source.old) (S.faults source.new) → ⊥) → (Rose (K.faults sink.old) (K.faults sink.new) → ⊥) → EndsWell result.status) }
-    ensures told { Tells result }
+    ensures tells { Tells result }
     ensures named { IsReplay words.now → IfSome (S.left source.old) (λ input. IfSome result.bad_line (Names 0 input)) }
     ensures headline { IfSome (S.left source.old) (λ input. IfOk (script_of 0 (lines_of input)) (λ s. RunHeadline s.config (first_part s.parts))) }
+    ensures told { IfSome (S.left source.old) (λ input. IfOk (script_of 0 (lines_of input)) (λ s. RunTold s.config (first_part s.parts))) }
     ensures promise { IfSome (S.left source.old) (λ input. IfOk (script_of 0 (lines_of input)) (λ s. RunPromise s.config (first_part s.parts))) }
 {
     match command_of(words) {
@@ -275,6 +276,7 @@ pub fn run<S: Source, K: Sink>(
     ensures linked { result ≢ Status.LinkFault }
     ensures complete { IsReplay words.now → IfSome (S.left source.old) (λ input. IsFit input → (Rose (S.faults source.old) (S.faults source.new) → ⊥) → (Rose (K.faults sink.old) (K.faults sink.new) → ⊥) → EndsWell result) }
     ensures headline { IfSome (S.left source.old) (λ input. IfOk (script_of 0 (lines_of input)) (λ s. RunHeadline s.config (first_part s.parts))) }
+    ensures told { IfSome (S.left source.old) (λ input. IfOk (script_of 0 (lines_of input)) (λ s. RunTold s.config (first_part s.parts))) }
     ensures promise { IfSome (S.left source.old) (λ input. IfOk (script_of 0 (lines_of input)) (λ s. RunPromise s.config (first_part s.parts))) }
 {
     run_outcome(alloc, words, source, sink).status

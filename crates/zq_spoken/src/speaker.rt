@@ -4,7 +4,7 @@ ghost use Rattle.zq_spoken.specs.Line.{said};
 ghost use Rattle.zq_spoken.specs.Talk.{Answered};
 ghost use Rattle.zq_machine.specs.declared.call.Call.{Call};
 ghost use Rattle.zq_machine.specs.Headline.{RunPromise};
-ghost use Rattle.zq_trace.specs.Machine.{RunHeadline};
+ghost use Rattle.zq_trace.specs.Machine.{RunHeadline, RunTold};
 ghost use Rattle.zq_spoken.specs.Opening.{Opens, config_of};
 ghost use Rattle.zq_spoken.specs.Speaker.{Answers, IsNext, IsNoLine, IsSpentBus, IsUnprinted, opens_bus, opens_gateway, print_of, printed};
 ghost use Rattle.zq_spoken.specs.declared.refusal.LineRefusal.TheVariants as refusal;
@@ -45,6 +45,7 @@ impl Speaker {
     pub fn open_gateway(alloc: Global, head: &[u8]) -> Result<Speaker, OpenRefusal>
         ensures opened { Opens result (opens_gateway head.now) }
         ensures headline { OnOk result (IfOk (config_of head.now) (λ c. (calls : List Call) → RunHeadline c calls)) }
+        ensures told { OnOk result (IfOk (config_of head.now) (λ c. (calls : List Call) → RunTold c calls)) }
         ensures promise { OnOk result (IfOk (config_of head.now) (λ c. (calls : List Call) → RunPromise c calls)) }
     {
         match Talk::open(alloc, head) {

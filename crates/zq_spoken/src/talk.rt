@@ -10,7 +10,7 @@ ghost use Rattle.zq_machine.specs.State.{opening_state};
 ghost use Rattle.zq_spoken.specs.Line.{said};
 ghost use Rattle.zq_spoken.specs.Opening.{Opens, config_of};
 ghost use Rattle.zq_spoken.specs.Talk.{Answered, fresh, opens, printed};
-ghost use Rattle.zq_trace.specs.Machine.{RunHeadline};
+ghost use Rattle.zq_trace.specs.Machine.{RunHeadline, RunTold};
 
 use crate::line::is_line;
 use crate::opening::config_of;
@@ -55,6 +55,7 @@ impl Model for Talk {
 fn begun(alloc: Global, config: &Config) -> Result<Talk, OutOfMemory>
     ensures fresh { IfOk result (λ s. s ≡ fresh (opening_state config.now)) }
     ensures headline { IfOk result (λ _. (calls : List Call) → RunHeadline config.now calls) }
+    ensures told { IfOk result (λ _. (calls : List Call) → RunTold config.now calls) }
     ensures promise { IfOk result (λ _. (calls : List Call) → RunPromise config.now calls) }
 {
     Ok(Talk {
@@ -80,6 +81,7 @@ impl Talk {
     pub fn open(alloc: Global, head: &[u8]) -> Result<Talk, OpenRefusal>
         ensures opened { Opens result (opens head.now) }
         ensures headline { OnOk result (IfOk (config_of head.now) (λ c. (calls : List Call) → RunHeadline c calls)) }
+        ensures told { OnOk result (IfOk (config_of head.now) (λ c. (calls : List Call) → RunTold c calls)) }
         ensures promise { OnOk result (IfOk (config_of head.now) (λ c. (calls : List Call) → RunPromise c calls)) }
     {
         let config = config_of(alloc, head)?;

@@ -16,7 +16,6 @@ use Rattle.zq_message.specs.declared.message.Message.{Message}
 use Rattle.zq_message.specs.declared.message.Message.TheVariants as message
 use Rattle.zq_message.specs.declared.message.WireExpr.{WireExpr}
 use Rattle.zq_interests.specs.Interests.{Asked, interests_of}
-use Rattle.zq_interests.specs.declared.types.InterestEntry.{InterestEntry}
 use Rattle.zq_strategy.specs.declared.types.FinalMark.{FinalMark}
 use Rattle.zq_strategy.specs.declared.types.FinalMark.TheVariants as mark
 use Rattle.zq_machine.specs.declared.call.Call.{Call}
@@ -31,9 +30,8 @@ use Rattle.zq_machine.specs.Machine.{after, state_after, step, steps_from}
 use Rattle.zq_machine.specs.Selecting.{full_text}
 use Rattle.zq_machine.specs.State.{State, opening_state}
 use Rattle.zq_machine.specs.Standing.{Standing, asked_at, asking_after, asking_by, asking_in, standing_after, standing_at, standing_in}
-use Rattle.zq_trace.specs.Faces.{Face, Trace, called, face_at, faces, handed_to, heard, new_face, says, told, with_mark, with_theirs}
+use Rattle.zq_trace.specs.Faces.{Face, Trace, asked, called, face_at, faces, handed_to, heard, new_face, says, told, with_mark, with_theirs}
 use Rattle.zq_trace.specs.Refusals.{next_face}
-use Rattle.zq_trace.proofs.Hats.{mapped, put_mapped}
 use Rattle.zq_trace.proofs.Runs.{IsRun, calls_of, reached, run_promise, state_of, steps_is}
 use Rattle.zq_trace.proofs.Standing.{Alike, faces_alike, says_same}
 
@@ -50,21 +48,9 @@ asks_next config past q c =
     ∙ (λ j. asking_after q c (step (state_of config past j) c) (sym ((run_promise config past).stands q) j) (sym ((run_promise config past).asked q) j))
     ∙ ap (λ (s : State). asking_after q c (step (reached config past) c) (standing_at q s) (interests_of q s.core.interests)) (state_of config past)
 
-abbrev pub key_in : InterestEntry → Option (List ℕ)
-key_in i = i.key
-
 abbrev pub Asks : Option Face → Asked → Type 0
 Asks None a = a ≡ []
-Asks (Some f) a = f.interests ≡ mapped key_in a
-
-removed : (id : ℕ) (a : Asked) → mapped key_in (remove_entry (is_at (nat_cmp id)) a) ≡ remove_entry (is_at (nat_cmp id)) (mapped key_in a)
-removed id [] = refl
-removed id (e ∷ a) = by (is_at (nat_cmp id) e.0) (removed id a)
-  where
-    by : (b : Bool) → mapped key_in (remove_entry (is_at (nat_cmp id)) a) ≡ remove_entry (is_at (nat_cmp id)) (mapped key_in a)
-        → mapped key_in (cond b a (e ∷ remove_entry (is_at (nat_cmp id)) a)) ≡ cond b (mapped key_in a) ((e.0, e.1.key) ∷ remove_entry (is_at (nat_cmp id)) (mapped key_in a))
-    by true ih = refl
-    by false ih = ap (λ l. (e.0, e.1.key) ∷ l) ih
+Asks (Some f) a = f.interests ≡ a
 
 module _ (config : Settings) (q : ℕ) where
   -- what a face hears changes nothing of it
@@ -106,27 +92,25 @@ module _ (config : Settings) (q : ℕ) where
   closed_same false f a is = is
 
   opened_same : (b : Bool) (x : Face) (f : Option Face) (a : Asked) → x.interests ≡ [] → (b ≡ true → a ≡ []) → Asks f a → Asks (cond b (Some x) f) a
-  opened_same true x f a none empty is = none ∙ sym (ap (mapped key_in) (empty refl))
+  opened_same true x f a none empty is = none ∙ sym (empty refl)
   opened_same false x f a none empty is = is
 
   interest_same : (id : ℕ) (keys aggregate : Bool) (w : Option WireExpr) (st : Option Standing) (f : Option Face) (a : Asked) → Alike config st f → Asks f a → (b : Bool)
-      → Asks (cond b (option_map (λ (y : Face). record y { interests = insert_entry nat_cmp y.interests id (option_map (λ x. full_text (says x y)) w) }) f) f) (cond b (option_map_or (λ (s : Standing). insert_entry nat_cmp a id (asked_at (record { keys = keys; aggregate = aggregate }) w s)) st a) a)
+      → Asks (cond b (option_map (λ (y : Face). record y { interests = insert_entry nat_cmp y.interests id (asked w keys aggregate y) }) f) f) (cond b (option_map_or (λ (s : Standing). insert_entry nat_cmp a id (asked_at (record { keys = keys; aggregate = aggregate }) w s)) st a) a)
   interest_same id keys aggregate w st f a alike is false = is
   interest_same id keys aggregate w None None a alike is true = is
   interest_same id keys aggregate w None (Some f) a alike is true = absurd alike
   interest_same id keys aggregate w (Some s) None a alike is true = absurd alike
-  interest_same id keys aggregate w (Some s) (Some f) a alike is true =
-      (λ j. insert_entry nat_cmp (is j) id (key_same w j))
-      ∙ sym (put_mapped key_in id (asked_at (record { keys = keys; aggregate = aggregate }) w s) a)
+  interest_same id keys aggregate w (Some s) (Some f) a alike is true = λ j. insert_entry nat_cmp (is j) id (same w j)
     where
-      key_same : (w : Option WireExpr) → option_map (λ x. full_text (says x f)) w ≡ (asked_at (record { keys = keys; aggregate = aggregate }) w s).key
-      key_same None = refl
-      key_same (Some x) = ap (λ y. Some (full_text y)) (says_same config q x s f alike)
+      same : (w : Option WireExpr) → asked w keys aggregate f ≡ asked_at (record { keys = keys; aggregate = aggregate }) w s
+      same None = refl
+      same (Some x) = ap (λ y. record { key = Some (full_text y); keys = keys; aggregate = aggregate }) (says_same config q x s f alike)
 
   end_same : (id : ℕ) (f : Option Face) (a : Asked) → Asks f a → (b : Bool) → Asks (cond b (option_map (λ (y : Face). record y { interests = remove_entry (is_at (nat_cmp id)) y.interests }) f) f) (cond b (remove_entry (is_at (nat_cmp id)) a) a)
   end_same id f a is false = is
   end_same id None a is true = ap (remove_entry (is_at (nat_cmp id))) is
-  end_same id (Some f) a is true = ap (remove_entry (is_at (nat_cmp id))) is ∙ sym (removed id a)
+  end_same id (Some f) a is true = ap (remove_entry (is_at (nat_cmp id))) is
 
   abbrev Fresh : Call → Outcome → Asked → Type 0
   Fresh (call.Open x) (outcome.Opened n) a = (n.0 == q) ≡ true → a ≡ []

@@ -28,3 +28,6 @@ pub mod Interests
 pub mod Rest
 pub mod Law
 pub mod Valid
+pub mod Reading
+pub mod Dues
+pub mod Told

@@ -33,7 +33,7 @@ flat_same p b same [] = refl
 flat_same p b same (f ∷ fs) = λ j. same f j ++ flat_same p b same fs j
 
 -- ---- by what faces declared
-keys_same : (fs : List (ℕ × FaceState)) (keys : List (List ℕ)) → fold with_keys keys (lean_faces false fs) ≡ fold with_keys keys fs
+pub keys_same : (fs : List (ℕ × FaceState)) (keys : List (List ℕ)) → fold with_keys keys (lean_faces false fs) ≡ fold with_keys keys fs
 keys_same [] keys = refl
 keys_same (f ∷ fs) keys = keys_same fs (with_keys keys f)
 

@@ -82,7 +82,7 @@ tables_now : (config : Settings) (past : Trace) → IsRun config past → (reach
 tables_now config past run = ap (λ (s : State). s.core.tables) (sym (state_of config past)) ∙ (run_promise config past).listed ∙ tables_from config past run
 
 -- ---- lists
-filter_same : {X : Type 0} (p q : X → Bool) → ((x : X) → p x ≡ q x) → (xs : List X) → filter p xs ≡ filter q xs
+pub filter_same : {X : Type 0} (p q : X → Bool) → ((x : X) → p x ≡ q x) → (xs : List X) → filter p xs ≡ filter q xs
 filter_same p q same [] = refl
 filter_same p q same (x ∷ xs) = λ j. cond (same x j) (x ∷ filter_same p q same xs j) (filter_same p q same xs j)
 
@@ -113,7 +113,7 @@ module _ (config : Settings) (past : Trace) (run : IsRun config past) (small : A
       λ j. strategy_of (sym (one_region g h.region it.place) j) (it.north j)
 
   -- a region is one of routers as its hat says
-  routes_are : (g : Region) (h : HatState) → hat_at g s.core.hats ≡ Some h → routes_in config g ≡ in_routers (strategy_at h) true false
+  pub routes_are : (g : Region) (h : HatState) → hat_at g s.core.hats ≡ Some h → routes_in config g ≡ in_routers (strategy_at h) true false
   routes_are g h e = sym (routing_is config 0 s (in_order config past) g) ∙ ap (λ x. option_map_or is_routing x false) e
 
   -- and its routers stand so

@@ -2,7 +2,7 @@
 use Rattle.std.proofs.Common.{◌≡◌, ◌∙◌, refl, sym, ap, subst, ℕ, ◌+◌, ◌^◌, Bool, true, false, cond, not, List, [], ◌∷◌, ◌++◌, map, Option, Some, None}
 use Rattle.std.specs.Prelude.{◌==◌, ◌&&◌, if◌then◌else◌, is_none, slice_get}
 use Rattle.std.proofs.lemmas.Bool.{false≢true}
-use Rattle.std.specs.Option.{is_some, option_and_then, option_map, option_map_or}
+use Rattle.std.specs.Option.{is_some, option_and_then, option_map_or}
 use Rattle.std.specs.Str.{bytes_eq}
 use Rattle.zq_message.specs.declared.message.FaceId.{FaceId}
 use Rattle.zq_message.specs.declared.message.QueryTarget.TheVariants as target
@@ -29,9 +29,8 @@ use Rattle.zq_machine.specs.Gates.{is_sound}
 use Rattle.zq_message.specs.declared.message.Region.{Region}
 use Rattle.zq_interests.specs.Interests.{asks_another, interest_at, interests_of, same_asked}
 use Rattle.zq_interests.specs.declared.types.InterestEntry.{InterestEntry}
-use Rattle.zq_trace.proofs.FaceLists.{faces_same, mapped_at}
-use Rattle.zq_trace.proofs.Hats.{mapped}
-use Rattle.zq_trace.proofs.Interests.{Asks, asks_alike, key_in}
+use Rattle.zq_trace.proofs.FaceLists.{faces_same}
+use Rattle.zq_trace.proofs.Interests.{Asks, asks_alike}
 use Rattle.zq_trace.proofs.Kept.{faces_next}
 use Rattle.zq_trace.proofs.Offered.{lean}
 use Rattle.zq_trace.proofs.Places.{region_same}
@@ -92,7 +91,7 @@ module _ (config : Settings) (past : Trace) (run : IsRun config past) (small : A
     of_hat : hat_of face.0 s.core ≡ Some hat
     of_hat = hat_there config past run small face (asking 0) p seen
 
-    router_same : of_face past face (is_router config) ≡ by_router face s.core
+    pub router_same : of_face past face (is_router config) ≡ by_router face s.core
     router_same =
         ap (λ g. option_map_or (is_router config) g false) its
         ∙ ap (λ g. is_routers (strategy_in config g)) (open_face config past run face.0 p seen).2.region
@@ -262,31 +261,19 @@ module _ (config : Settings) (past : Trace) (run : IsRun config past) (small : A
 
   -- ---- an interest and its end
   module _ (face : FaceId) (id : ℕ) where
-    kept_asks : (p : OpenFace) (seen : at face.0 s.core.faces ≡ Some p) → (f config past run lacks face p seen).interests ≡ mapped key_in (interests_of face.0 s.core.interests)
-    kept_asks p seen = subst (λ z. Asks z (interests_of face.0 s.core.interests)) (here config past run lacks face p seen) (asks_alike config face.0 past run)
-
-    asked_here : (p : OpenFace) (seen : at face.0 s.core.faces ≡ Some p) → at id (f config past run lacks face p seen).interests ≡ option_map key_in (interest_at face.0 id s.core.interests)
-    asked_here p seen = ap (at id) (kept_asks p seen) ∙ mapped_at id key_in (interests_of face.0 s.core.interests)
-
-    none_mapped : (z : Option InterestEntry) → is_none (option_map key_in z) ≡ is_none z
-    none_mapped None = refl
-    none_mapped (Some z) = refl
+    asked_here : (p : OpenFace) (seen : at face.0 s.core.faces ≡ Some p) → at id (f config past run lacks face p seen).interests ≡ interest_at face.0 id s.core.interests
+    asked_here p seen = ap (at id) (subst (λ z. Asks z (interests_of face.0 s.core.interests)) (here config past run lacks face p seen) (asks_alike config face.0 past run))
 
     pub end_refuses : refusal_of lacks config past (call.InterestFinal face id) ≡ machine_refusal s.core (read s (call.InterestFinal face id))
     end_refuses =
         by_face config past run lacks face (behind (causes lacks config past (call.InterestFinal face id))) (behind (machine_causes s.core (read s (call.InterestFinal face id))))
         (λ p seen. ap (λ b. cond b (Some refusal.UnknownId) None)
-        (ap (λ g. option_map_or (λ (y : Face). is_none (at id y.interests)) g false) (here config past run lacks face p seen) ∙ ap is_none (asked_here p seen) ∙ none_mapped (interest_at face.0 id s.core.interests)))
-
-    another_by : (asked : Option (List ℕ)) (z : Option InterestEntry) → option_map_or (λ was. not (same_asked was asked)) (option_map key_in z) false ≡ option_map_or (λ (i : InterestEntry). not (same_asked i.key asked)) z false
-    another_by asked None = refl
-    another_by asked (Some z) = refl
+        (ap (λ g. option_map_or (λ (y : Face). is_none (at id y.interests)) g false) (here config past run lacks face p seen) ∙ ap is_none (asked_here p seen)))
 
     another_same : (p : OpenFace) (seen : at face.0 s.core.faces ≡ Some p) (asked : Option (List ℕ)) → of_face past face (asks_else id asked) ≡ asks_another face.0 id asked s.core.interests
     another_same p seen asked =
         ap (λ g. option_map_or (asks_else id asked) g false) (here config past run lacks face p seen)
-        ∙ ap (λ z. option_map_or (λ was. not (same_asked was asked)) z false) (asked_here p seen)
-        ∙ another_by asked (interest_at face.0 id s.core.interests)
+        ∙ ap (λ z. option_map_or (λ (was : InterestEntry). not (same_asked was.key asked)) z false) (asked_here p seen)
 
     pub interest_refuses : (keys aggregate : Bool) (w : Option WireExpr) → refusal_of lacks config past (call.Interest face id keys aggregate w) ≡ machine_refusal s.core (read s (call.Interest face id keys aggregate w))
     interest_refuses keys aggregate None =

@@ -31,7 +31,7 @@ use Rattle.zq_machine.specs.Machine.{after, state_after, step, steps_from}
 use Rattle.zq_machine.specs.State.{State, opening_state}
 use Rattle.zq_machine.specs.Standing.{Standing, accepted_at, declaring_at, heard_all, heard_at, heard_body as standing_heard_body, heard_message as standing_heard, newly_opened, routes_in, standing_after, standing_at, standing_in, text_said, with_kept}
 use Rattle.zq_tables.specs.Naming.{said_of}
-use Rattle.zq_trace.specs.Faces.{Face, Trace, called, changed, face_at, handed_to, heard, new_face, says, told, with_mark, with_theirs}
+use Rattle.zq_trace.specs.Faces.{Face, Trace, asked, called, changed, face_at, handed_to, heard, new_face, says, told, with_mark, with_theirs}
 use Rattle.zq_trace.specs.Selected.{seen}
 use Rattle.zq_trace.proofs.Offered.{lean}
 use Rattle.zq_trace.proofs.Runs.{IsRun, calls_of, reached, run_promise, state_of}
@@ -190,7 +190,7 @@ module _ (config : Settings) (q : ℕ) where
       by_face n.0 (declaring_at config (call.SetNodeIds n ids)) (λ y. record y { nodes = ids }) s f
       (λ x y is. record { region = is.region; zid = is.zid; space = is.space; denied = is.denied; numbers = is.numbers; nodes = refl; queryables = is.queryables; kept = λ j. record (is.kept j) { nodes = ids } }) same
   call_same (call.Interest n id keys aggregate w) answer s f same =
-      by_trace n.0 (λ y. record y { interests = insert_entry nat_cmp y.interests id (option_map (λ x. full_text (says x y)) w) }) s f
+      by_trace n.0 (λ y. record y { interests = insert_entry nat_cmp y.interests id (asked w keys aggregate y) }) s f
       (λ x y is. record { region = is.region; zid = is.zid; space = is.space; denied = is.denied; numbers = is.numbers; nodes = is.nodes; queryables = is.queryables; kept = is.kept }) same
   call_same (call.InterestFinal n id) answer s f same =
       by_trace n.0 (λ y. record y { interests = remove_entry (is_at (nat_cmp id)) y.interests }) s f

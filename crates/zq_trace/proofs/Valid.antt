@@ -30,7 +30,7 @@ both_none : (a b : Option BadConfig) → or_else a b ≡ None → (a ≡ None) �
 both_none None b h = (refl, h)
 both_none (Some x) b h = absurd (let gap : Some x ≡ None = h in cc)
 
-all_small : (seen : List ℕ) (es : List Entry) → bad_from seen es ≡ None → AllByRecursion (λ (e : Entry). is_region (region_of e) ≡ true) es
+pub all_small : (seen : List ℕ) (es : List Entry) → bad_from seen es ≡ None → AllByRecursion (λ (e : Entry). is_region (region_of e) ≡ true) es
 all_small seen [] h = tt
 all_small seen (e ∷ es) h =
     let parts = both_none (bad_entry seen e) (bad_from (seen ++ entry_index e ∷ []) es) h in

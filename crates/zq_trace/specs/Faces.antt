@@ -16,6 +16,7 @@ use Rattle.zq_message.specs.declared.message.Region.{Region}
 use Rattle.zq_message.specs.declared.message.WireExpr.{WireExpr}
 use Rattle.zq_message.specs.declared.message.Zid.{Zid}
 use Rattle.zq_index.specs.Texts.{text_cmp}
+use Rattle.zq_interests.specs.declared.types.InterestEntry.{InterestEntry}
 use Rattle.zq_strategy.specs.declared.types.Declaration.{Declaration}
 use Rattle.zq_strategy.specs.declared.types.FinalMark.{FinalMark}
 use Rattle.zq_strategy.specs.declared.types.FinalMark.TheVariants as mark
@@ -38,7 +39,14 @@ use Rattle.zq_machine.specs.Selecting.{full_text}
 abbrev pub Trace : Type 0
 Trace = List (Call × Step)
 
--- what stands of an open face: its region, its node's id and mode, the side of that node on which the gateway lies, its namespace and the keys that it may not ask for, as it was opened; the numbers for keys that it declared, and those that were declared to it; its queryables and the keys of its interests, by id; whether all that it had to declare at its opening has come, and the keys, in order, on which all has come; and its node table
+-- each call with its step keeps what it has to, behind those before
+abbrev pub EachCall : (Trace → Call → Step → Type 0) → Trace → List Call → List Step → Type 0
+EachCall Keeps past [] [] = Unit {0}
+EachCall Keeps past [] (t ∷ ts) = ⊥
+EachCall Keeps past (c ∷ cs) [] = ⊥
+EachCall Keeps past (c ∷ cs) (t ∷ ts) = Keeps past c t × EachCall Keeps ((c, t) ∷ past) cs ts
+
+-- what stands of an open face: its region, its node's id and mode, the side of that node on which the gateway lies, its namespace and the keys that it may not ask for, as it was opened; the numbers for keys that it declared, and those that were declared to it; its queryables and its interests, by id; whether all that it had to declare at its opening has come, and the keys, in order, on which all has come; and its node table
 pub record Face : Type 0 where
   pub region : Region
   pub zid : Zid
@@ -48,7 +56,7 @@ pub record Face : Type 0 where
   pub denied : List (List ℕ)
   pub numbers : FaceNaming
   pub queryables : List (ℕ × Declaration)
-  pub interests : List (ℕ × Option (List ℕ))
+  pub interests : List (ℕ × InterestEntry)
   pub initial : Bool
   pub finalized : List (List ℕ)
   pub nodes : NodeIds
@@ -60,6 +68,10 @@ new_face o = record { region = o.region; zid = o.zid; mode = o.mode; bound = o.r
 -- what an expression says that the face sends: behind its namespace, by the numbers that stand there
 abbrev pub says : WireExpr → Face → Resolved
 says w f = said_of f.numbers (entered_by f.space w)
+
+-- what an interest of the face asks for
+abbrev pub asked : Option WireExpr → (keys aggregate : Bool) → Face → InterestEntry
+asked w keys aggregate f = record { key = option_map (λ x. full_text (says x f)) w; keys = keys; aggregate = aggregate }
 
 -- with other numbers of its own
 abbrev pub with_theirs : Face → List (ℕ × List ℕ) → Face
@@ -77,7 +89,7 @@ change (call.DeclareKeyExpr face id w) = Some (face.0, λ f. with_theirs f (inse
 change (call.UndeclareKeyExpr face id) = Some (face.0, λ f. with_theirs f (remove_entry (is_at (nat_cmp id)) f.numbers.theirs))
 change (call.DeclareQueryable face id w info node) = Some (face.0, λ f. record f { queryables = insert_entry nat_cmp f.queryables id (record { key = full_text (says w f); info = info }) })
 change (call.UndeclareQueryable face id w node) = Some (face.0, λ f. record f { queryables = remove_entry (is_at (nat_cmp id)) f.queryables })
-change (call.Interest face id keys aggregate w) = Some (face.0, λ f. record f { interests = insert_entry nat_cmp f.interests id (option_map (λ x. full_text (says x f)) w) })
+change (call.Interest face id keys aggregate w) = Some (face.0, λ f. record f { interests = insert_entry nat_cmp f.interests id (asked w keys aggregate f) })
 change (call.InterestFinal face id) = Some (face.0, λ f. record f { interests = remove_entry (is_at (nat_cmp id)) f.interests })
 change (call.FinalizeInterest face m set) = Some (face.0, with_mark m set)
 change (call.SetNodeIds face ids) = Some (face.0, λ f. record f { nodes = ids })

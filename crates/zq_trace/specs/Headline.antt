@@ -1,5 +1,5 @@
 -- The headline, said of a trace alone: of a configuration, a list of calls and the list of their steps.
-use Rattle.std.specs.Prelude.{◌≡◌, ℕ, ◌==◌, Bool, false, ◌||◌, List, [], ◌∷◌, ◌++◌, map, Option, if◌then◌else◌}
+use Rattle.std.specs.Prelude.{◌≡◌, ℕ, ◌==◌, Bool, false, ◌||◌, List, [], ◌++◌, map, Option, if◌then◌else◌}
 use Rattle.std.specs.List.{filter, list_any}
 use Rattle.std.specs.Option.{is_some, option_and_then, option_map, option_map_or}
 use Rattle.zq_message.specs.declared.message.Message.{Message}
@@ -13,7 +13,7 @@ use Rattle.zq_machine.specs.declared.call.Step.{Step}
 use Rattle.zq_machine.specs.Handing.{Handed}
 use Rattle.zq_machine.specs.Configs.{Settings}
 use Rattle.zq_machine.specs.Deciding.{is_accepted}
-use Rattle.zq_trace.specs.Faces.{Trace}
+use Rattle.zq_trace.specs.Faces.{EachCall, Trace}
 use Rattle.zq_trace.specs.Awaited.{next_reply, owner}
 use Rattle.zq_trace.specs.Expected.{finals_of, if_open, next_request, replies_of, requests_of, shown}
 use Rattle.zq_trace.specs.Refusals.{Lacks, next_face, refusal_of}
@@ -64,10 +64,7 @@ pub record CallHeadline (lacks : Lacks) (config : Settings) (past : Trace) (c : 
 
 -- each call keeps it, behind those before
 abbrev pub HeadlineFrom : Lacks → Settings → Trace → List Call → List Step → Type 0
-HeadlineFrom lacks config past [] [] = Unit {0}
-HeadlineFrom lacks config past [] (t ∷ ts) = ⊥
-HeadlineFrom lacks config past (c ∷ cs) [] = ⊥
-HeadlineFrom lacks config past (c ∷ cs) (t ∷ ts) = CallHeadline lacks config past c t × HeadlineFrom lacks config ((c, t) ∷ past) cs ts
+HeadlineFrom lacks config = EachCall (CallHeadline lacks config)
 
 -- the headline
 abbrev pub Headline : Lacks → Settings → List Call → List Step → Type 0

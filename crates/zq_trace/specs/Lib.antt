@@ -4,5 +4,7 @@ pub mod Selected
 pub mod Expected
 pub mod Refusals
 pub mod Headline
+pub mod Due
+pub mod Told
 pub mod Machine
 pub mod Laws

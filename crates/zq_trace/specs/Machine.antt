@@ -15,6 +15,7 @@ use Rattle.zq_trace.specs.Faces.{Trace}
 use Rattle.zq_trace.specs.Selected.{select}
 use Rattle.zq_trace.specs.Refusals.{Lacks, refusal_of}
 use Rattle.zq_trace.specs.Headline.{Headline}
+use Rattle.zq_trace.specs.Told.{Told}
 
 -- the state after the calls of a trace
 abbrev pub reached : Settings → Trace → State
@@ -33,6 +34,10 @@ of_machine config past c = lacks_told (reached config past).core (read (reached 
 -- a run of these calls keeps the headline
 abbrev pub RunHeadline : Settings → List Call → Type 0
 RunHeadline config calls = Headline (of_machine config) config calls (steps config calls)
+
+-- what faces are told by a run of these calls is due to them
+abbrev pub RunTold : Settings → List Call → Type 0
+RunTold config calls = Told config calls (steps config calls)
 
 -- at the end of each trace of a run, the trace picks the offers that the machine selects
 abbrev pub PicksAlike : Settings → Type 0

@@ -13,6 +13,7 @@ use Rattle.zq_strategy.specs.Regions.{is_upstream}
 use Rattle.zq_strategy.specs.declared.types.Declaration.{Declaration}
 use Rattle.zq_message.specs.Region.{region_index}
 use Rattle.zq_interests.specs.Interests.{same_asked}
+use Rattle.zq_interests.specs.declared.types.InterestEntry.{InterestEntry}
 use Rattle.zq_strategy.specs.declared.offer.QueryTargetQabl.{QueryTargetQabl}
 use Rattle.zq_tables.specs.Naming.{remaps, text_at}
 use Rattle.zq_tables.specs.declared.resolved.Resolved.{Resolved}
@@ -78,7 +79,7 @@ clashes id key f = option_map_or (λ (d : Declaration). not (bytes_eq d.key key)
 
 -- the face asks for something else under the id
 abbrev pub asks_else : ℕ → Option (List ℕ) → Face → Bool
-asks_else id asked f = option_map_or (λ was. not (same_asked was asked)) (at id f.interests) false
+asks_else id asked f = option_map_or (λ (was : InterestEntry). not (same_asked was.key asked)) (at id f.interests) false
 
 -- the face's region is one of routers
 abbrev pub is_router : Settings → Face → Bool

@@ -10,12 +10,18 @@ ghost use Rattle.zq_trace.specs.Laws.{AreSilent, BackFrom};
 ghost use Rattle.zq_trace.specs.Refusals.{Lacks};
 ghost use Rattle.zq_machine.specs.declared.call.Call.{Call};
 ghost use Rattle.zq_machine.specs.Configs.{Settings, bad_config};
-ghost use Rattle.zq_trace.specs.Machine.{RunHeadline};
+ghost use Rattle.zq_trace.specs.Machine.{RunHeadline, RunTold};
 
 /// The steps of every run of a configuration with which nothing is wrong keep the headline.
 #[tactic(auto, using(crate::proofs::Valid::valid_keep))]
 pub fn headline()
     ensures { (config : Settings) → bad_config config.entries ≡ None → (calls : List Call) → RunHeadline config calls }
+{}
+
+/// What faces outside regions of routers were told in such a run is, after each call, what is due to them.
+#[tactic(auto, using(crate::proofs::Told::valid_told))]
+pub fn told_is_due()
+    ensures { (config : Settings) → bad_config config.entries ≡ None → (calls : List Call) → RunTold config calls }
 {}
 
 /// One final comes of each request at most, whatever calls and steps keep the headline.

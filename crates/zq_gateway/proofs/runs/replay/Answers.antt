@@ -7,6 +7,7 @@ use Rattle.zq_machine.specs.declared.call.Step.{Step}
 use Rattle.zq_machine.specs.Machine.{after, step, steps_from}
 use Rattle.zq_machine.specs.State.{State}
 use Rattle.zq_machine.proofs.Kept.{headline}
+use Rattle.zq_trace.proofs.Told.{given_told}
 use Rattle.zq_trace.proofs.Valid.{given_keep}
 use Rattle.zq_gateway.proofs.runs.replay.Goals as goal
 
@@ -31,6 +32,9 @@ loop-call-preserved c =
 
 pub returns-clause-headline : goal.returns-clause-headline
 returns-clause-headline c = given_keep c.args.config.now (search rules) c.args.calls.now _ (grind (arith, common_steps))
+
+pub returns-clause-told : goal.returns-clause-told
+returns-clause-told c = given_told c.args.config.now (search rules) c.args.calls.now _ (grind (arith, common_steps))
 
 pub returns-clause-promise : goal.returns-clause-promise
 returns-clause-promise c = headline c.args.config.now c.args.calls.now
