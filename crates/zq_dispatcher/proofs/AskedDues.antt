@@ -1,5 +1,5 @@
 -- What an interest looks at, and what its end looks at, by what is due as the hats are.
-use Rattle.std.proofs.Common.{◌≡◌, ◌∙◌, refl, sym, ap, ℕ, Bool, true, false, cond, not, List, [], ◌∷◌, ◌++◌, map, filter, fold, Option, Some, None, true≢false}
+use Rattle.std.proofs.Common.{◌≡◌, ◌∙◌, refl, sym, ap, ℕ, Bool, true, false, cond, List, [], ◌∷◌, ◌++◌, map, filter, fold, Option, Some, None, true≢false}
 use Rattle.std.specs.Prelude.{◌&&◌, ◌||◌, is_none}
 use Rattle.std.specs.BTreeMap.{is_at}
 use Rattle.std.specs.BTreeSet.{insert_key}
@@ -17,7 +17,7 @@ use Rattle.zq_index.specs.Texts.{text_cmp}
 use Rattle.zq_index.proofs.Orders.{text_exact, text_total}
 use Rattle.zq_strategy.specs.State.{HatState}
 use Rattle.zq_interests.specs.declared.types.InterestEntry.{InterestEntry}
-use Rattle.zq_interests.specs.Interests.{Interests, asked_for, asks_folded, asks_for, interests_of, meets, own_key, own_keys, wants, wants_folded, with_interest, without_interest}
+use Rattle.zq_interests.specs.Interests.{Interests, asked_for, asks_folded, interests_of, meets, own_key, own_keys, wants_folded, with_interest, without_interest}
 use Rattle.zq_interests.proofs.Besides.{any_put, put_of}
 use Rattle.zq_told.specs.ToldSets.{ToldSets, told_keys}
 use Rattle.zq_told.specs.Telling.{KeyDue}

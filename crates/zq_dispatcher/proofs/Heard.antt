@@ -7,7 +7,6 @@ use Rattle.std.specs.List.{AllByRecursion, flat_map}
 use Rattle.std.specs.List.Sorted.{IsStrictlySortedBy}
 use Rattle.std.specs.Option.{is_some, option_and_then, option_map_or}
 use Rattle.std.proofs.lemmas.List.Kept.{IsStrictlySortedBy-filter}
-use Rattle.zq_message.specs.declared.message.QueryableInfoType.{QueryableInfoType}
 use Rattle.zq_key.specs.Key.{intersects}
 use Rattle.zq_key.proofs.Lookups.{same_key}
 use Rattle.zq_index.specs.Texts.{has_text, text_cmp}
@@ -15,9 +14,8 @@ use Rattle.zq_index.proofs.Orders.{text_exact, text_total}
 use Rattle.zq_strategy.specs.Regions.{is_north, strategy_at}
 use Rattle.zq_strategy.specs.State.{HatState}
 use Rattle.zq_interests.specs.Interests.{Interests, asks_folded, asks_for}
-use Rattle.zq_told.specs.Telling.{KeyDue}
 use Rattle.zq_machine.specs.declared.face.OpenFace.{OpenFace}
-use Rattle.zq_machine.specs.Due.{due, due_keys, folded, folds, folds_in, heard, heard_as, listens, listens_by, listens_in}
+use Rattle.zq_machine.specs.Due.{due, due_keys, folded, folds_in, heard, heard_as, listens, listens_by, listens_in}
 use Rattle.zq_machine.specs.Neighbours.{due_on, dues_on}
 use Rattle.zq_machine.specs.State.{Core, at, hat_at}
 use Rattle.zq_machine.proofs.DueKeys.{all_put, due_rise, is_among}
@@ -27,7 +25,7 @@ use Rattle.zq_machine.proofs.NeighbourDues.{among_filter}
 use Rattle.zq_machine.proofs.Widening.{both_true}
 use Rattle.zq_dispatcher.specs.declared.asking.Asking.{Asking}
 use Rattle.zq_dispatcher.specs.declared.types.RegionChange.{RegionChange}
-use Rattle.zq_dispatcher.specs.Dues.{IsAfter, IsBeside, all_keys, due_as, folded_as, hats_after, hears_as, heard_at, listed_due, listens_as, parts, put_if_meets}
+use Rattle.zq_dispatcher.specs.Dues.{IsAfter, all_keys, due_as, folded_as, hats_after, hears_as, heard_at, listed_due, listens_as, parts, put_if_meets}
 use Rattle.zq_dispatcher.proofs.KeysMet.{all_rise, hats_rise, none_rise}
 use Rattle.zq_dispatcher.proofs.Nexts.{listens_after}
 
@@ -90,7 +88,7 @@ or_left : (a b : Bool) → a ≡ true → (a || b) ≡ true
 or_left a b e = ap (λ x. x || b) e
 
 -- those of some keys that meet a key are put in
-meeting_put : (key : List ℕ) (ks texts : List (List ℕ)) → fold (put_if_meets key) texts ks ≡ fold (insert_key text_cmp) texts (filter (λ k. intersects k key) ks)
+pub meeting_put : (key : List ℕ) (ks texts : List (List ℕ)) → fold (put_if_meets key) texts ks ≡ fold (insert_key text_cmp) texts (filter (λ k. intersects k key) ks)
 meeting_put key [] texts = refl
 meeting_put key (k ∷ ks) texts = by (intersects k key) (meeting_put key ks)
   where

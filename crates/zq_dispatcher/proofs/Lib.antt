@@ -16,3 +16,4 @@ pub mod Listening
 pub mod Joining
 pub mod AskedDues
 pub mod Opened
+pub mod Gathering

@@ -1,7 +1,6 @@
 -- What a change of one region's hat does to what faces hear: their own hat's fellows, the other regions' merge, and on what they listen.
-use Rattle.std.proofs.Common.{◌≡◌, ◌∙◌, refl, sym, ap, ℕ, Bool, true, false, cond, List, [], ◌∷◌, ◌++◌, map, Option, Some, None, eq-eqb, eqb-true, true≢false}
-use Rattle.std.specs.Prelude.{◌==◌, ◌&&◌, filter}
-use Rattle.std.specs.List.{AllByRecursion, flat_map}
+use Rattle.std.proofs.Common.{◌≡◌, ◌∙◌, refl, sym, ap, ℕ, Bool, true, false, cond, List, Option, Some, None, eq-eqb, eqb-true, true≢false}
+use Rattle.std.specs.Prelude.{◌==◌, ◌&&◌}
 use Rattle.std.specs.Map.{keys_of}
 use Rattle.std.specs.BTreeMap.{is_at}
 use Rattle.std.specs.List.Sorted.{IsStrictlySortedBy}
@@ -30,16 +29,14 @@ use Rattle.zq_strategy.specs.Kept.{region_info}
 use Rattle.zq_strategy.specs.Regions.{in_routers, is_north, same_mode, same_region, strategy_at, strategy_of}
 use Rattle.zq_strategy.specs.State.{HatState}
 use Rattle.zq_machine.specs.declared.face.OpenFace.{OpenFace}
-use Rattle.zq_machine.specs.Due.{due, heard, heard_as, heard_by, heard_in, listens, listens_by, listens_in}
-use Rattle.zq_interests.specs.Interests.{Interests, asks_for}
-use Rattle.zq_machine.specs.State.{Core, at, change_hat, hat_at, is_region, put_hat}
+use Rattle.zq_machine.specs.Due.{heard_as, heard_by, heard_in, listens_by}
+use Rattle.zq_machine.specs.State.{change_hat, hat_at, is_region, put_hat}
 use Rattle.zq_machine.specs.Trees.{own_entry}
 use Rattle.zq_machine.proofs.Changing.{hat_here, region_there}
 use Rattle.zq_dispatcher.specs.Own.{own_entry_as}
 use Rattle.zq_dispatcher.proofs.Changed.{own_changed, same_places}
 use Rattle.zq_dispatcher.specs.declared.types.RegionChange.{RegionChange}
 use Rattle.zq_dispatcher.specs.Dues.{hats_after, hats_next, hears_as, listens_as, new_info}
-use Rattle.zq_machine.specs.Neighbours.{due_on, dues_on}
 
 -- ---- a change keeps a hat's region and strategy
 networked_region : (k : Strategy) (net : Network) (s : HatState) → (in_routers k (record s { network = net; entries = staying (is_listed net) s.entries }) s).region ≡ s.region

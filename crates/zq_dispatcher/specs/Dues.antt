@@ -1,9 +1,8 @@
 -- What is due to an open face, by the hats of the regions as they are or as a change of one of them will make them.
-use Rattle.std.specs.Prelude.{◌≡◌, ℕ, Bool, ◌&&◌, false, true, not, List, [], ◌∷◌, filter, fold, map, Option, Some, None, if◌then◌else◌}
+use Rattle.std.specs.Prelude.{◌≡◌, ℕ, Bool, ◌&&◌, false, true, not, List, [], ◌∷◌, filter, fold, Option, Some, None, if◌then◌else◌}
 use Rattle.std.specs.BTreeSet.{insert_key}
 use Rattle.std.specs.Option.{is_some, option_map, option_map_or}
 use Rattle.std.specs.List.{AllByRecursion}
-use Rattle.std.specs.List.Sorted.{IsStrictlySortedBy}
 use Rattle.zq_message.specs.declared.message.QueryableInfoType.{QueryableInfoType}
 use Rattle.zq_key.specs.Key.{intersects, is_key}
 use Rattle.zq_index.specs.Texts.{has_text, text_cmp}
@@ -14,7 +13,7 @@ use Rattle.zq_strategy.specs.State.{HatState}
 use Rattle.zq_told.specs.ToldSets.{ToldSets, told_at}
 use Rattle.zq_told.specs.Telling.{KeyDue}
 use Rattle.zq_machine.specs.declared.face.OpenFace.{OpenFace}
-use Rattle.zq_machine.specs.Due.{folded_over, heard_as, listens_by, seen_at, with_region_keys}
+use Rattle.zq_machine.specs.Due.{folded_over, heard_as, listens_by, with_region_keys}
 use Rattle.zq_machine.specs.State.{Core, at, change_hat, hat_at}
 use Rattle.zq_dispatcher.specs.declared.entries.NewInfo.{NewInfo}
 use Rattle.zq_dispatcher.specs.declared.asking.Asking.{Asking}
@@ -53,10 +52,6 @@ AreKeys keys = AllByRecursion (λ key. is_key key ≡ true) keys
 -- what an open face will hear on the key: on those keys by the hats after the change, and elsewhere what it hears
 abbrev pub heard_at : Option RegionChange → List (List ℕ) → ℕ → OpenFace → List (ℕ × HatState) → List ℕ → Option QueryableInfoType
 heard_at next touched face o hats key = if has_text key touched then heard_as face key (hats_after next key hats) o else heard_as face key hats o
-
--- what it hears on a key as a part of the entry for another, if anything
-abbrev pub part_of : List ℕ → List ℕ → Option QueryableInfoType → Option QueryableInfoType
-part_of key k i = option_map (seen_at key k) i
 
 -- a key joins others, if it meets the key
 abbrev pub put_if_meets : List ℕ → List (List ℕ) → List ℕ → List (List ℕ)

@@ -8,3 +8,4 @@ pub mod Dues
 pub mod Listeners
 pub mod Over
 pub mod Owns
+pub mod Parts

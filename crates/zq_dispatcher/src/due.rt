@@ -1,5 +1,5 @@
 //! Whether a face is interested in a key, and what will be due to it there once a hat has changed.
-ghost use Rattle.std.specs.Prelude.{◌≡◌, IfOk, IsTrue, map, option_copied, string_bytes};
+ghost use Rattle.std.specs.Prelude.{◌≡◌, IfOk, IsTrue, OnOk, map, option_copied, string_bytes};
 ghost use Rattle.zq_key.specs.Key.{is_key};
 ghost use Rattle.zq_message.specs.Region.{region_index};
 ghost use Rattle.zq_strategy.specs.Changes.{changed_if};
@@ -8,15 +8,17 @@ ghost use Rattle.zq_strategy.specs.Regions.{is_north, strategy_at};
 ghost use Rattle.zq_machine.specs.Due.{heard_as, heard_by, listens_by};
 ghost use Rattle.zq_machine.specs.Trees.{own_entry};
 ghost use Rattle.zq_dispatcher.specs.Dues.{AreKeys, due_as, hats_after, hats_next, heard_at, listens_as, meant_as, new_info};
+ghost use Rattle.zq_dispatcher.specs.Parts.{AreGathered, hats_on};
 
 use crate::asking::Asking;
 use crate::entries::{NewInfo, own_entry, own_entry_as};
 use crate::folded::folded;
+use crate::folds::Folds;
 use crate::hats::hat_at;
 use crate::sorted::has_text;
 use crate::types::RegionChange;
 use std::alloc::Global;
-use std::collections::BTreeSet;
+use std::collections::{BTreeMap, BTreeSet};
 use zq_hat::hat::Hat;
 use zq_index::info::joined;
 use zq_key::memory::OutOfMemory;
@@ -49,8 +51,8 @@ pub fn listens(hats: &RegionMap<Hat>, opened: OpenFace, asks: bool) -> bool
     }
 }
 
-// What a face of the hat hears on the key, which changes or not, where the other regions have this.
-fn heard_in(
+/// What a face of the hat hears on the key, which changes or not, where the other regions have this.
+pub(crate) fn heard_in(
     hat: &Hat,
     change: Option<&Change>,
     face: FaceId,
@@ -110,6 +112,25 @@ fn others_next(
     let _in_order = hats.iter();
     let new = new_info(hats, next, key);
     own_entry_as(hats, region, key, new)
+}
+
+/// What the regions but one will have on the key, merged, which a change of a hat reaches or not.
+pub(crate) fn others_at(
+    hats: &RegionMap<Hat>,
+    next: Option<&RegionChange>,
+    changes: bool,
+    region: Region,
+    key: &str,
+) -> Option<QueryableInfoType>
+    ensures { result ≡ own_entry (region_index region) key.now (hats_on changes (option_copied next.entry) key.now hats.now) }
+{
+    if !changes {
+        return own_entry(hats, region, key);
+    }
+    match next {
+        Some(next) => others_next(hats, next, region, key),
+        None => own_entry(hats, region, key),
+    }
 }
 
 // What an open face will hear on the key by its region, once a hat has changed.
@@ -172,29 +193,67 @@ pub fn heard_at(
 // What there will be for an open face at a key, for which it asks as one entry or not: the one entry, if
 // it does not listen unasked, and else what it will hear there.
 fn meant(
+    folds: &mut Folds,
     alloc: Global,
     hats: &RegionMap<Hat>,
     next: Option<&RegionChange>,
     touched: &BTreeSet<String>,
     face: FaceId,
     opened: OpenFace,
-    folds: bool,
+    as_one: bool,
     key: &str,
 ) -> Result<Option<QueryableInfoType>, OutOfMemory>
     requires touched { AreKeys (map string_bytes touched.now.keys) }
     requires key { IsTrue (is_key key.now) }
-    ensures { IfOk result (λ i. i ≡ meant_as folds (option_copied next.entry) (map string_bytes touched.now.keys) face.0 opened hats.now key.now) }
+    requires gathered { AreGathered (option_copied next) (map string_bytes touched.now.keys) hats.now folds.old.entries }
+    ensures meant { IfOk result (λ i. i ≡ meant_as as_one (option_copied next.entry) (map string_bytes touched.now.keys) face.0 opened hats.now key.now) }
+    ensures gathered { OnOk result (AreGathered (option_copied next.entry) (map string_bytes touched.now.keys) hats.now folds.new.entries) }
 {
-    if !listens(hats, opened, false) && folds {
-        folded(alloc, hats, next, touched, face, opened, key)
+    if !listens(hats, opened, false) && as_one {
+        folded(folds, alloc, hats, next, touched, face, opened, key)
     } else {
         Ok(heard_at(hats, next, touched, face, opened, key))
     }
 }
 
 /// What will be due to an open face on a key of which it asks this, once a hat has changed: what there
-/// will be for it there, if it is interested; where none changes, what is due. Refused only where memory is
-/// lacking.
+/// will be for it there, if it is interested; where none changes, what is due. What was gathered for other
+/// faces of its region is not gathered again. Refused only where memory is lacking.
+pub(crate) fn due_with(
+    folds: &mut Folds,
+    alloc: Global,
+    hats: &RegionMap<Hat>,
+    next: Option<&RegionChange>,
+    touched: &BTreeSet<String>,
+    face: FaceId,
+    opened: OpenFace,
+    asking: Asking,
+    key: &str,
+) -> Result<Option<QueryableInfoType>, OutOfMemory>
+    requires touched { AreKeys (map string_bytes touched.now.keys) }
+    requires key { IsTrue (is_key key.now) }
+    requires gathered { AreGathered (option_copied next) (map string_bytes touched.now.keys) hats.now folds.old.entries }
+    ensures due { IfOk result (λ i. i ≡ due_as asking (option_copied next.entry) (map string_bytes touched.now.keys) face.0 opened hats.now key.now) }
+    ensures gathered { OnOk result (AreGathered (option_copied next.entry) (map string_bytes touched.now.keys) hats.now folds.new.entries) }
+{
+    if listens(hats, opened, asking.asks) {
+        meant(
+            folds,
+            alloc,
+            hats,
+            next,
+            touched,
+            face,
+            opened,
+            asking.folds,
+            key,
+        )
+    } else {
+        Ok(None)
+    }
+}
+
+/// The same where nothing was gathered for other faces.
 pub fn due_as(
     alloc: Global,
     hats: &RegionMap<Hat>,
@@ -209,9 +268,8 @@ pub fn due_as(
     requires key { IsTrue (is_key key.now) }
     ensures { IfOk result (λ i. i ≡ due_as asking (option_copied next.entry) (map string_bytes touched.now.keys) face.0 opened hats.now key.now) }
 {
-    if listens(hats, opened, asking.asks) {
-        meant(alloc, hats, next, touched, face, opened, asking.folds, key)
-    } else {
-        Ok(None)
-    }
+    let mut folds = BTreeMap::new(alloc);
+    due_with(
+        &mut folds, alloc, hats, next, touched, face, opened, asking, key,
+    )
 }

@@ -6,9 +6,11 @@ ghost use Rattle.zq_interests.specs.Interests.{asks_folded};
 ghost use Rattle.zq_dispatcher.specs.Asking.{asking_in};
 ghost use Rattle.zq_dispatcher.specs.Dues.{AreKeys, due_as, listed_due, row_as};
 ghost use Rattle.zq_dispatcher.specs.Owns.{AreFolded, has_own};
+ghost use Rattle.zq_dispatcher.specs.Parts.{AreGathered};
 
 use crate::asking::{Asking, asks_among};
-use crate::due::{due_as, listens};
+use crate::due::{due_as, due_with, listens};
+use crate::folds::Folds;
 use crate::owns::OwnKeys;
 use crate::types::RegionChange;
 use std::alloc::Global;
@@ -49,6 +51,7 @@ pub fn put_due(
 // entry just if it is among these.
 fn list_due(
     dues: &mut KeyUpdates,
+    folds: &mut Folds,
     alloc: Global,
     hats: &RegionMap<Hat>,
     next: Option<&RegionChange>,
@@ -62,11 +65,14 @@ fn list_due(
     requires touched { AreKeys (map string_bytes touched.now.keys) }
     requires key { IsTrue (is_key key.now) }
     requires folded { has_own (option_copied owns) key.now ≡ asks_folded face.0 key.now interests.now }
-    ensures { OnOk result (dues.new ≡ dues.old ++ listed_due (asking_in interests.now face.0) (option_copied next.entry) (map string_bytes touched.now.keys) face.0 opened hats.now key.now) }
+    requires gathered { AreGathered (option_copied next) (map string_bytes touched.now.keys) hats.now folds.old.entries }
+    ensures dues { OnOk result (dues.new ≡ dues.old ++ listed_due (asking_in interests.now face.0) (option_copied next.entry) (map string_bytes touched.now.keys) face.0 opened hats.now key.now) }
+    ensures gathered { OnOk result (AreGathered (option_copied next.entry) (map string_bytes touched.now.keys) hats.now folds.new.entries) }
 {
     let asks = asks_among(interests, owns, face, key);
     if listens(hats, opened, asks.asks) {
-        put_due(dues, alloc, hats, next, touched, face, opened, asks, key)
+        let due = due_with(folds, alloc, hats, next, touched, face, opened, asks, key)?;
+        dues.push((Text::new(alloc, key)?, due))
     } else {
         Ok(())
     }
@@ -74,8 +80,10 @@ fn list_due(
 
 /// Those of the keys in which an open face will be interested once a hat has changed, which changes what is heard
 /// on the touched keys alone, with what will be due to it there; where none changes, as they are. It asks
-/// for those among its own aggregated, and for no others. Refused only where memory is lacking.
+/// for those among its own aggregated, and for no others. What was gathered for other faces of its region
+/// is not gathered again. Refused only where memory is lacking.
 pub(crate) fn dues_of_face(
+    folds: &mut Folds,
     alloc: Global,
     hats: &RegionMap<Hat>,
     next: Option<&RegionChange>,
@@ -89,13 +97,15 @@ pub(crate) fn dues_of_face(
     requires touched { AreKeys (map string_bytes touched.now.keys) }
     requires keys { AreKeys keys.now }
     requires folded { AreFolded interests.now face.0 (option_copied owns) keys.now }
-    ensures { IfOk result (λ ds. ds ≡ flat_map (listed_due (asking_in interests.now face.0) (option_copied next.entry) (map string_bytes touched.now.keys) face.0 opened hats.now) keys.now) }
+    requires gathered { AreGathered (option_copied next) (map string_bytes touched.now.keys) hats.now folds.old.entries }
+    ensures dues { IfOk result (λ ds. ds ≡ flat_map (listed_due (asking_in interests.now face.0) (option_copied next.entry) (map string_bytes touched.now.keys) face.0 opened hats.now) keys.now) }
+    ensures gathered { OnOk result (AreGathered (option_copied next.entry) (map string_bytes touched.now.keys) hats.now folds.new.entries) }
 {
     let mut dues = Items::new(alloc);
     for key in keys {
         let text = key.as_str();
         list_due(
-            &mut dues, alloc, hats, next, touched, interests, owns, face, opened, text,
+            &mut dues, folds, alloc, hats, next, touched, interests, owns, face, opened, text,
         )?;
     }
     Ok(dues)

@@ -12,6 +12,7 @@
 //! - `asking`: what a face asks of keys by its interests
 //! - `due`: whether a face is interested in a key, and what will be due to it there
 //! - `folded`: one entry for all keys that meet a key
+//! - `folds`: what was gathered for such entries in a call
 //! - `dues`: the same of some keys
 //! - `asked`: what an interest of a face looks at, and what its end looks at
 //! - `listeners`: which faces can be interested in some of the keys
@@ -29,6 +30,7 @@ pub mod due;
 pub mod dues;
 pub mod entries;
 pub mod folded;
+pub mod folds;
 pub mod hats;
 pub mod keys;
 pub mod listeners;

@@ -14,9 +14,11 @@ ghost use Rattle.zq_machine.specs.TextCalls.{opening};
 ghost use Rattle.zq_dispatcher.specs.Dues.{AreKeys, IsAfter};
 ghost use Rattle.zq_dispatcher.specs.Over.{AreSeated, IsOpening, dues_there, faces_but, is_gone, looked_there, open_but};
 ghost use Rattle.zq_dispatcher.specs.Owns.{AllKeys, AreOwns};
+ghost use Rattle.zq_dispatcher.specs.Parts.{AreGathered};
 
 use crate::due::listens;
 use crate::dues::{dues_of_face, dues_on_each};
+use crate::folds::Folds;
 use crate::keys::met_keys;
 use crate::listeners::listeners;
 use crate::owns::{OwnKeys, Owns, owns_met};
@@ -86,6 +88,7 @@ fn widened(alloc: Global, keys: &[Text], owns: &OwnKeys) -> Result<TextList, Out
 // What will be due to an open face, on those of the touched keys on which it listens, and on those of its
 // aggregating interests' keys that one of them meets.
 fn dues_there(
+    folds: &mut Folds,
     alloc: Global,
     hats: &RegionMap<Hat>,
     next: Option<&RegionChange>,
@@ -101,16 +104,19 @@ fn dues_there(
     requires owns { AllKeys owns.now.entries }
     requires valid { AreKeys keys.now }
     requires rise { IsStrictlySortedBy text_cmp keys.now }
-    ensures { IfOk result (λ ds. ds ≡ dues_there interests.now (option_copied next.entry) hats.now keys.now (face.0, opened)) }
+    requires gathered { AreGathered (option_copied next) (map string_bytes touched.now.keys) hats.now folds.old.entries }
+    ensures dues { IfOk result (λ ds. ds ≡ dues_there interests.now (option_copied next.entry) hats.now keys.now (face.0, opened)) }
+    ensures gathered { OnOk result (AreGathered (option_copied next.entry) (map string_bytes touched.now.keys) hats.now folds.new.entries) }
 {
     let Some(own) = owns.get(&face.0) else {
         return dues_of_face(
-            alloc, hats, next, touched, interests, None, face, opened, keys,
+            folds, alloc, hats, next, touched, interests, None, face, opened, keys,
         );
     };
     let wide = widened(alloc, keys, own)?;
     let all = wide.as_slice();
     dues_of_face(
+        folds,
         alloc,
         hats,
         next,
@@ -126,6 +132,7 @@ fn dues_there(
 // The face joins the list with what will be due to it, if it is open after the call and anything is.
 fn look_there(
     list: &mut DuesList,
+    folds: &mut Folds,
     alloc: Global,
     faces: &BTreeMap<u32, OpenFace>,
     but: Option<FaceId>,
@@ -142,13 +149,15 @@ fn look_there(
     requires owns { AllKeys owns.now.entries }
     requires valid { AreKeys keys.now }
     requires rise { IsStrictlySortedBy text_cmp keys.now }
-    ensures { OnOk result (list.new ≡ list.old ++ looked_there interests.now (option_copied next.entry) hats.now keys.now but faces.now.entries face.0) }
+    requires gathered { AreGathered (option_copied next) (map string_bytes touched.now.keys) hats.now folds.old.entries }
+    ensures listed { OnOk result (list.new ≡ list.old ++ looked_there interests.now (option_copied next.entry) hats.now keys.now but faces.now.entries face.0) }
+    ensures gathered { OnOk result (AreGathered (option_copied next.entry) (map string_bytes touched.now.keys) hats.now folds.new.entries) }
 {
     let Some(opened) = open_but(faces, but, face) else {
         return Ok(());
     };
     let dues = dues_there(
-        alloc, hats, next, touched, interests, owns, face, opened, keys,
+        folds, alloc, hats, next, touched, interests, owns, face, opened, keys,
     )?;
     list_face(list, face, dues)
 }
@@ -174,10 +183,12 @@ fn look_at(
     ensures { IfOk result (λ ds. ds ≡ flat_map (looked_there interests.now (option_copied next.entry) hats.now keys.now but faces.now.entries) listeners.now.keys) }
 {
     let mut list = Items::new(alloc);
+    let mut folds = BTreeMap::new(alloc);
     for number in listeners {
         let face = FaceId(*number);
         look_there(
-            &mut list, alloc, faces, but, hats, next, touched, interests, owns, face, keys,
+            &mut list, &mut folds, alloc, faces, but, hats, next, touched, interests, owns, face,
+            keys,
         )?;
     }
     Ok(list)

@@ -1,5 +1,4 @@
 use Rattle.std.proofs.Common.{◌≡◌, ◌∙◌, ap, subst, map, filter, fold, List, IfOk, None}
-use Rattle.std.specs.Prelude.{string_bytes}
 use Rattle.std.specs.Option.{option_copied}
 use Rattle.zq_interests.specs.Interests.{interests_of, without_interest}
 use Rattle.zq_told.specs.declared.types.FaceUpdate.{FaceUpdate}

@@ -1,4 +1,4 @@
-use Rattle.std.proofs.Common.{◌≡◌, ◌∙◌, append_assoc, ap, sym, subst, ◌++◌, ◌∷◌, map, ℕ, List}
+use Rattle.std.proofs.Common.{◌∙◌, append_assoc, ap, sym, subst, ◌++◌, map, ℕ, List}
 use Rattle.std.specs.Prelude.{string_bytes}
 use Rattle.std.specs.List.{flat_map}
 use Rattle.zq_told.specs.Telling.{KeyDue}

@@ -1,8 +1,7 @@
-use Rattle.std.proofs.Common.{◌≡◌, sym, subst, map, true, List, ℕ}
-use Rattle.std.specs.Prelude.{string_bytes, OnOk}
+use Rattle.std.proofs.Common.{◌≡◌, map, true}
+use Rattle.std.specs.Prelude.{string_bytes}
 use Rattle.zq_key.specs.Key.{is_key}
 use Rattle.zq_index.specs.Texts.{text_cmp}
-use Rattle.zq_dispatcher.specs.Dues.{AreKeys}
 use Rattle.zq_dispatcher.proofs.KeysGathered.{one_in}
 use Rattle.zq_dispatcher.proofs.KeysMet.{ok_keys}
 use Rattle.zq_dispatcher.proofs.asking.put_key.Goals as goal

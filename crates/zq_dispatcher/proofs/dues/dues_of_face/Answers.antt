@@ -15,4 +15,7 @@ loop-key-preserved c =
     let f : List ℕ → List KeyDue = listed_due (asking_in c.args.interests.now c.args.face.0) (option_copied c.args.next) (map string_bytes c.args.touched.now.keys) c.args.face.0 c.args.opened c.args.hats.now in
     let index = c.loop-key.key-index in
     let more : flat_map f (take (index + 1) keys) ≡ flat_map f (take index keys) ++ f key = ap (flat_map f) (take_more keys index key c.loop-key-test.true ∙ ap (λ k. take index keys ++ k ∷ []) (sym c.key-item.is)) ∙ sym (flat_map_more f [] (take index keys) key) in
-    c.in_ok-list_due.ensures ∙ (λ i. c.loop-key.invariant i ++ f (c.as_str-text.ensures i)) ∙ sym more
+    record {
+      dues = c.in_ok-list_due.ensures.dues ∙ (λ i. c.loop-key.invariant.dues i ++ f (c.as_str-text.ensures i)) ∙ sym more;
+      gathered = c.in_ok-list_due.ensures.gathered;
+    }

@@ -1,12 +1,11 @@
-use Rattle.std.proofs.Common.{◌≡◌, ◌∙◌, [], ◌∷◌, ℕ, List, ap, subst, arith, IfOk, true≢false, sym, length}
+use Rattle.std.proofs.Common.{◌≡◌, ◌∙◌, [], ℕ, List, ap, subst, arith, IfOk, true≢false, sym, length}
 use Rattle.std.specs.Prelude.{◌==◌}
 use Rattle.std.specs.List.{flat_map}
 use Rattle.std.specs.Option.{option_copied}
 use Rattle.std.proofs.lemmas.List.{nil_from_length}
 use Rattle.zq_told.specs.declared.types.FaceUpdate.{FaceUpdate}
-use Rattle.zq_machine.specs.Neighbours.{looked_over}
 use Rattle.zq_dispatcher.proofs.Listening.{listeners_give, there}
-use Rattle.zq_dispatcher.proofs.Overs.{looked_are, no_faces_over, no_keys_over}
+use Rattle.zq_dispatcher.proofs.Overs.{looked_are, no_keys_over}
 use Rattle.zq_dispatcher.proofs.Widened.{first_of, put_in_order}
 use Rattle.zq_dispatcher.proofs.over.dues_over.Goals as goal
 

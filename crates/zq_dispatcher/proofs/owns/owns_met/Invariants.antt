@@ -1,4 +1,4 @@
-use Rattle.std.proofs.Common.{◌≡◌, take}
+use Rattle.std.proofs.Common.{take}
 use Rattle.zq_dispatcher.specs.Owns.{AllKeys, AreOwns}
 use Rattle.zq_dispatcher.proofs.owns.owns_met.Given as goal
 

@@ -1,11 +1,11 @@
-use Rattle.std.proofs.Common.{◌≡◌, ◌∙◌, [], sym, ap, ℕ, List, Option}
+use Rattle.std.proofs.Common.{◌∙◌, [], ap, ℕ, List, Option}
 use Rattle.std.specs.BTreeMap.{insert_entry}
 use Rattle.std.specs.BTreeSet.{insert_key}
 use Rattle.std.specs.Option.{option_map_or}
 use Rattle.std.specs.Ordering.{nat_cmp}
 use Rattle.zq_index.specs.Texts.{text_cmp}
 use Rattle.zq_interests.proofs.Writing.{written_over}
-use Rattle.zq_dispatcher.specs.Owns.{Owns, with_key}
+use Rattle.zq_dispatcher.specs.Owns.{Owns}
 use Rattle.std.proofs.lemmas.Result.{on_ok_weaker}
 use Rattle.zq_dispatcher.proofs.owns.put_beside.Goals as goal
 

@@ -1,4 +1,4 @@
-use Rattle.std.proofs.Common.{◌≡◌, ◌∙◌, ap, subst, sym, fold, List, ℕ}
+use Rattle.std.proofs.Common.{◌∙◌, ap, subst, sym, fold, List}
 use Rattle.std.proofs.lemmas.Result.{on_ok_weaker}
 use Rattle.zq_interests.specs.declared.types.FaceKey.{FaceKey}
 use Rattle.zq_index.specs.Texts.{has_text}
