@@ -4,4 +4,9 @@ pub mod Ended
 pub mod Ordered
 pub mod Reported
 pub mod Numbered
+pub mod Tame
+pub mod Joined
+pub mod Reached
+pub mod Refusing
+pub mod Waiting
 pub mod Traced

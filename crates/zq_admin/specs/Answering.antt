@@ -1,11 +1,8 @@
 -- How the gateway's own face answers the requests that it is handed.
 use Rattle.std.specs.Prelude.{ℕ, ◌==◌, ◌&&◌, List, [], ◌∷◌, ◌++◌, Bool, true, filter, fold, Option, Some, None, if◌then◌else◌, codes}
-use Rattle.zq_message.specs.declared.message.Bound.TheVariants as bound
 use Rattle.zq_message.specs.declared.message.FaceId.{FaceId}
 use Rattle.zq_message.specs.declared.message.Message.{Message}
 use Rattle.zq_message.specs.declared.message.Message.TheVariants as message
-use Rattle.zq_message.specs.declared.message.Mode.TheVariants as mode
-use Rattle.zq_message.specs.declared.message.Region.TheVariants as region
 use Rattle.zq_message.specs.declared.message.ReplyBody.TheVariants as body
 use Rattle.zq_message.specs.declared.message.Request.{Request}
 use Rattle.zq_key.specs.Key.{is_key}
@@ -22,13 +19,14 @@ use Rattle.zq_machine.specs.Deciding.{is_accepted}
 use Rattle.zq_machine.specs.Handing.{Handed}
 use Rattle.zq_machine.specs.Machine.{after, state_after, step}
 use Rattle.zq_machine.specs.State.{State, opening_state}
+use Rattle.zq_local.specs.Seated.{local_opening}
 use Rattle.zq_admin.specs.Entries.{Entry, entries, is_met, sources_words}
 
 -- ---- the own face
 
 -- it is a client of Local
 abbrev pub own_opening : Settings → Call
-own_opening config = call.Open (record { region = region.Local; zid = config.zid; mode = mode.Client; remote_bound = bound.North; namespace = None; entry_deny = []; exit_deny = [] })
+own_opening config = call.Open (local_opening config.zid)
 
 -- the key that it declares: `@/ZID/**`
 abbrev pub own_key : Settings → List ℕ

@@ -1,7 +1,7 @@
 //! A gateway with a face of its own, which answers requests on who declared which key.
 ghost use Rattle.std.specs.Prelude.{◌≡◌, ◌+◌, ◌≤◌, ◌<◌, [], IfNone, IfOk, IfSome, None};
 ghost use Rattle.std.specs.Vec.{vec_capacity, vec_len};
-ghost use Rattle.zq_admin.specs.Admin.{AnswersStep, Calls, IsAsked, RefusesNew};
+ghost use Rattle.zq_admin.specs.Admin.{AnswersStep, Calls, IsAsked, IsJoined, RefusesFull, RefusesNew};
 ghost use Rattle.zq_admin.specs.Answering.{first_asked, own_state};
 ghost use Rattle.zq_admin.specs.Traced.{AsksTraced};
 
@@ -103,8 +103,10 @@ fn answer_step(
 impl Admin {
     /// A gateway of this configuration, with a face of its own in Local that has declared the queryable 1 on
     /// `@/ZID/**`. `NoLocal` where there is no Local region, `NoFreeId` where no number is left for the face.
+    #[tactic(auto, using(crate::proofs::Joined::joined))]
     pub fn new(alloc: Global, config: &Config) -> Result<Admin, AdminRefusal>
         ensures ok { IfOk result (λ a. a ≡ (record { 0 = config.now.start.faces }, own_state (record { 0 = config.now.start.faces }) config.now)) }
+        ensures joined { IfOk result (λ a. IsJoined a.0 config.now) }
         ensures refused { RefusesNew config.now result }
     {
         if !config.has_local() {
@@ -136,10 +138,11 @@ impl Admin {
     /// that meets the request's key, in order, each reported as sent, and by its final. A reply that no number
     /// is left for ends them, and the final follows it. `OutOfMemory` where the call itself found no memory,
     /// and then nothing changed; `Cut` where the list or a reply found none.
-    #[tactic(auto, using(crate::proofs::Traced::asks_traced))]
+    #[tactic(auto, using(crate::proofs::Traced::asks_traced, crate::proofs::Refusing::refuses_full))]
     pub fn call(&mut self, call: &Call) -> Result<StepList, AdminRefusal>
         ensures calls { Calls self.old self.new call.now result }
         ensures traced { AsksTraced self.old.0 self.old.1 call.now }
+        ensures alone { RefusesFull self.old.0 self.old.1 call.now }
     {
         let Ok(begun) = begin(self.alloc) else {
             return Err(AdminRefusal::OutOfMemory);

@@ -1,9 +1,12 @@
 //! The entries whose keys meet a key.
-ghost use Rattle.std.specs.Prelude.{◌≡◌, ◌++◌, IfOk, OnOk, filter};
-ghost use Rattle.zq_admin.specs.Entries.{AreInOrder, entries_met, entries_under, is_met};
+ghost use Rattle.std.specs.Prelude.{◌≡◌, ◌++◌, IfOk, OnOk, codes, filter};
+ghost use Rattle.zq_hat.specs.Sourced.{all_queriers, all_queryables};
+ghost use Rattle.zq_admin.specs.Entries.{AreInOrder, entries_met, entries_under, front as front_of, is_met, own_source};
+ghost use Rattle.zq_admin.specs.Reach.{AsksKey, reached};
 ghost use Rattle.zq_admin.specs.Traced.{AreTraced};
 
 use crate::fronts::{behind, front};
+use crate::reach::{Reach, reach_of};
 use std::alloc::Global;
 use zq_gateway::Gateway;
 use zq_hat::sources::{Source, SourceList};
@@ -33,6 +36,68 @@ fn add_met(
     Ok(())
 }
 
+/// Who asks for each key that is reached.
+fn queriers_in(
+    alloc: Global,
+    gateway: &Gateway,
+    reach: Reach<'_>,
+) -> Result<SourceList, OutOfMemory>
+    requires { AsksKey reach }
+    ensures { IfOk result (λ l. l ≡ reached reach.entry (all_queriers gateway.now.state.core.interests gateway.now.state.core.hats)) }
+{
+    match reach {
+        Reach::Nothing => Ok(Items::new(alloc)),
+        Reach::Met(rest) => gateway.sourced_queriers_on(rest),
+        Reach::All => gateway.sourced_queriers(),
+    }
+}
+
+/// Who declared each key that is reached.
+fn queryables_in(
+    alloc: Global,
+    gateway: &Gateway,
+    reach: Reach<'_>,
+) -> Result<SourceList, OutOfMemory>
+    requires { AsksKey reach }
+    ensures { IfOk result (λ l. l ≡ reached reach.entry (all_queryables (own_source gateway.now.state.core.config) gateway.now.state.core.hats)) }
+{
+    match reach {
+        Reach::Nothing => Ok(Items::new(alloc)),
+        Reach::Met(rest) => gateway.sourced_queryables_on(rest),
+        Reach::All => gateway.sourced_queryables(),
+    }
+}
+
+/// The entries of who asks whose keys meet the key join the others.
+fn add_queriers(
+    list: &mut AdminList,
+    alloc: Global,
+    gateway: &Gateway,
+    own: Source,
+    key: &Key,
+) -> Result<(), OutOfMemory>
+    ensures { OnOk result (list.new ≡ list.old ++ filter (is_met key.now) (entries_under (front_of own (codes "querier")) (all_queriers gateway.now.state.core.interests gateway.now.state.core.hats))) }
+{
+    let front = front(alloc, own, "querier")?;
+    let sources = queriers_in(alloc, gateway, reach_of(front.as_str(), key.as_str()))?;
+    add_met(list, alloc, front.as_str(), key, sources)
+}
+
+/// The entries of who declared whose keys meet the key join the others.
+fn add_queryables(
+    list: &mut AdminList,
+    alloc: Global,
+    gateway: &Gateway,
+    own: Source,
+    key: &Key,
+) -> Result<(), OutOfMemory>
+    ensures { OnOk result (list.new ≡ list.old ++ filter (is_met key.now) (entries_under (front_of own (codes "queryable")) (all_queryables (own_source gateway.now.state.core.config) gateway.now.state.core.hats))) }
+{
+    let front = front(alloc, own, "queryable")?;
+    let sources = queryables_in(alloc, gateway, reach_of(front.as_str(), key.as_str()))?;
+    add_met(list, alloc, front.as_str(), key, sources)
+}
+
 /// The entries whose keys meet the key.
 fn entries_met(alloc: Global, gateway: &Gateway, key: &Key) -> Result<AdminList, OutOfMemory>
     ensures { IfOk result (λ l. l ≡ entries_met key.now gateway.now.state) }
@@ -42,22 +107,8 @@ fn entries_met(alloc: Global, gateway: &Gateway, key: &Key) -> Result<AdminList,
         mode: gateway.north(),
     };
     let mut list = Items::new(alloc);
-    let queriers = front(alloc, own, "querier")?;
-    add_met(
-        &mut list,
-        alloc,
-        queriers.as_str(),
-        key,
-        gateway.sourced_queriers()?,
-    )?;
-    let queryables = front(alloc, own, "queryable")?;
-    add_met(
-        &mut list,
-        alloc,
-        queryables.as_str(),
-        key,
-        gateway.sourced_queryables()?,
-    )?;
+    add_queriers(&mut list, alloc, gateway, own, key)?;
+    add_queryables(&mut list, alloc, gateway, own, key)?;
     Ok(list)
 }
 

@@ -1,6 +1,7 @@
 //! What the keys of the administration view begin with.
-ghost use Rattle.std.specs.Prelude.{◌≡◌, IfOk, codes};
+ghost use Rattle.std.specs.Prelude.{◌≡◌, IfOk, codes, true};
 ghost use Rattle.zq_io.specs.Values.{mode_word, zid_word};
+ghost use Rattle.zq_io.specs.Words.{lacks};
 ghost use Rattle.zq_key.specs.Space.{behind};
 ghost use Rattle.zq_admin.specs.Entries.{front};
 
@@ -18,9 +19,10 @@ pub fn behind(alloc: Global, before: &str, text: &str) -> Result<Text, OutOfMemo
     Text::joined(alloc, before, "/", text)
 }
 
-/// `@/ZID`.
+/// `@/ZID`, in which no `*` stands.
 pub fn zid_front(alloc: Global, zid: Zid) -> Result<Text, OutOfMemory>
-    ensures { IfOk result (λ t. t ≡ behind (codes "@") (zid_word zid)) }
+    ensures text { IfOk result (λ t. t ≡ behind (codes "@") (zid_word zid)) }
+    ensures tame { IfOk result (λ t. lacks 42 t ≡ true) }
 {
     let mut buffer = Buffer::new();
     behind(alloc, "@", buffer.format(zid.0))
@@ -37,9 +39,10 @@ fn mode_name(mode: Mode) -> &'static str
     }
 }
 
-/// What stands before the keys of a kind: `@/ZID/MODE/KIND`.
+/// What stands before the keys of a kind: `@/ZID/MODE/KIND`, in which no `*` stands if none does in KIND.
 pub fn front(alloc: Global, own: Source, kind: &str) -> Result<Text, OutOfMemory>
-    ensures { IfOk result (λ t. t ≡ front own kind.now) }
+    ensures text { IfOk result (λ t. t ≡ front own kind.now) }
+    ensures tame { lacks 42 kind.now ≡ true → IfOk result (λ t. lacks 42 t ≡ true) }
 {
     let zid = zid_front(alloc, own.zid)?;
     let mode = behind(alloc, zid.as_str(), mode_name(own.mode))?;

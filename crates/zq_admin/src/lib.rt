@@ -1,6 +1,7 @@
 //! The administration view: who declared which key, and who asks for it, under keys of the gateway's own.
 //!
 //! - `fronts`: what the keys of entries begin with
+//! - `reach`: which of the keys behind a front can meet a key
 //! - `entries`: the entries whose keys meet a key
 //! - `lines`: the line of an entry
 //! - `gathering`: a gateway on which calls were made
@@ -22,6 +23,7 @@ mod gathering;
 pub mod laws;
 pub mod lines;
 mod opening;
+mod reach;
 pub mod refusal;
 pub mod running;
 

@@ -1,5 +1,6 @@
 //! How the gateway's own face is opened, and what it declares.
-ghost use Rattle.std.specs.Prelude.{◌≡◌, IfOk};
+ghost use Rattle.std.specs.Prelude.{◌≡◌, IfOk, OnOk, true};
+ghost use Rattle.zq_key.specs.Key.{is_key};
 ghost use Rattle.zq_admin.specs.Answering.{own_declaration, own_key, own_opening, own_state};
 
 use crate::fronts::{behind, zid_front};
@@ -28,14 +29,16 @@ fn own_opening(alloc: Global, config: &Config) -> Call
 }
 
 fn own_key(alloc: Global, config: &Config) -> Result<Text, OutOfMemory>
-    ensures { IfOk result (λ t. t ≡ own_key config.now) }
+    ensures text { IfOk result (λ t. t ≡ own_key config.now) }
+    ensures key { OnOk result (is_key (own_key config.now) ≡ true) }
 {
     let front = zid_front(alloc, config.zid())?;
     behind(alloc, front.as_str(), "**")
 }
 
 fn own_declaration(alloc: Global, own: FaceId, config: &Config) -> Result<Call, OutOfMemory>
-    ensures { IfOk result (λ c. c ≡ own_declaration own config.now) }
+    ensures call { IfOk result (λ c. c ≡ own_declaration own config.now) }
+    ensures key { OnOk result (is_key (own_key config.now) ≡ true) }
 {
     Ok(Call::DeclareQueryable {
         face: own,
@@ -51,7 +54,8 @@ fn own_declaration(alloc: Global, own: FaceId, config: &Config) -> Result<Call, 
 
 /// A gateway with its own face, which has declared its queryable.
 pub fn opened(alloc: Global, config: &Config, own: FaceId) -> Result<Gateway, OutOfMemory>
-    ensures { IfOk result (λ g. g.state ≡ own_state own config.now) }
+    ensures state { IfOk result (λ g. g.state ≡ own_state own config.now) }
+    ensures key { OnOk result (is_key (own_key config.now) ≡ true) }
 {
     let mut gateway = Gateway::new(alloc, config)?;
     gateway.call(&own_opening(alloc, config))?;

@@ -11,5 +11,5 @@ two_made : (own : FaceId) (config : Settings) (s z y : State) (o d : Call) → s
 unfolding own_state
 two_made own config s z y o d e f g h i = i ∙ (λ j. after ((h ∙ (λ k. after (e k) (f k))) j) (g j))
 
-pub returns : goal.returns
-returns c = two_made c.args.own c.args.config.now _ _ _ _ _ c.in_ok-gateway.ensures.opening c.own_opening.ensures c.in_ok-own_declaration.ensures c.in_ok-call.ensures.after c.in_ok-call-2.ensures.after
+pub returns-clause-state : goal.returns-clause-state
+returns-clause-state c = two_made c.args.own c.args.config.now _ _ _ _ _ c.in_ok-gateway.ensures.opening c.own_opening.ensures c.in_ok-own_declaration.ensures.call c.in_ok-call.ensures.after c.in_ok-call-2.ensures.after
