@@ -7,10 +7,14 @@
 use std::io::{self, Read, Write};
 use std::process::ExitCode;
 
+#[path = "baseline/face.rs"]
+mod face;
 #[path = "baseline/gateway.rs"]
 mod gateway;
 #[path = "baseline/keys.rs"]
 mod keys;
+#[path = "baseline/telling.rs"]
+mod telling;
 #[path = "baseline/words.rs"]
 mod words;
 

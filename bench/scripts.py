@@ -231,7 +231,37 @@ def networks(routers=1_000, keys=10_000, times=10):
         yield f'network north {nodes} {";".join([tree] * 19 + [f"{i % 10 + 1}/x"])} {far}'
 
 
-# The same where neighbours are told, which the baseline does not do
+# Neighbours that are told
+
+def told(calls=20_000, aggregate=''):
+    """Sixty faces in four regions, all with an interest but the first. Each in turn declares one of 130 keys, twice, and
+    withdraws the first. Every other interest may aggregate."""
+    yield 'config 1 10000 north:peer local south:0:client south:1:peer'
+    for n in range(60):
+        yield f'open {("north", "local", "south:0:client", "south:1:peer")[n % 4]} {n + 10} client north -'
+    for n in range(1, 60):
+        asked = (f'a/{n % 10}/*', '**/t1', 'a/**')[(n - 1) % 3]
+        yield f'interest {n} 1 0:s:{asked} {"nk"[n % 5 == 0]}{aggregate if n % 2 == 0 else ""}'
+    for n in range(calls):
+        turn, face = divmod(n, 60)
+        if turn % 3 == 2:
+            yield f'unqueryable {face} {turn - 2} - 0'
+        else:
+            yield f'queryable {face} {turn} 0:s:a/{turn % 10}/t{n % 13} {"cpp"[n % 3]} {n % 5} 0'
+
+
+def named(turns=2_500):
+    """An upstream that is told, an application and a client: numbers given and taken back, and keys of many chunks."""
+    yield from ('config 1 10000 north:client local south:0:client', 'open local 10 client north -',
+                'open south:0:client 11 client north -', 'open north 12 router south -',
+                'queryable 0 1 0:s:x/** c 0 0', 'interest 1 1 - k')
+    for n in range(turns):
+        yield f'key {n % 3} {n % 50 + 1} 0:s:x/{n}'
+        yield f'queryable 0 {n + 2} 0:s:x/{n}/y/z/q{n % 3} p 0 0'
+        yield from (f'ask {1 + i % 2} {4 * n + i} 0:s:x/{4 * n + i}/y/q1 all - 0 0 - 0' for i in range(4))
+        yield f'unkey {n % 3} {n % 50 + 1}'
+        yield f'unqueryable 0 {n + 2} - 0'
+
 
 def under_upstream(count):
     """A gateway's face to its router, and an application that has so many keys, each of which the router is told."""

@@ -4,59 +4,13 @@ use std::borrow::Cow;
 use std::collections::{BTreeMap, BTreeSet, HashMap, HashSet};
 use std::rc::Rc;
 
-use crate::keys::{includes, is_key, parent, Hat};
+use crate::face::{Face, Info, Queryable};
+use crate::keys::{includes, is_key, Hat};
+use crate::telling::Told;
 use crate::words::*;
 
 /// Done, or refused by a name.
-type Answer = Result<(), &'static str>;
-
-/// An open face: what it told all of, the numbers that it gave, its queryables by the place of their keys, and the
-/// requests that it owes a final.
-#[derive(Default)]
-struct Face {
-    region: Region,
-    zid: u128,
-    is_upstream: bool,
-    told: bool,
-    told_of: HashSet<String>,
-    texts: HashMap<u16, Rc<str>>,
-    numbers: HashMap<Rc<str>, BTreeSet<u16>>,
-    queryables: HashMap<u32, (usize, bool)>,
-    pending: HashMap<u32, u64>,
-    last_id: u32,
-}
-
-impl Face {
-    /// The full text of an expression that the face sends.
-    fn said<'a>(&self, wire: Wire<'a>) -> Result<Cow<'a, str>, &'static str> {
-        if wire.scope == 0 {
-            return Ok(wire.suffix);
-        }
-        let text = self.texts.get(&wire.scope).filter(|_| wire.of_sender).ok_or("UnknownScope")?;
-        Ok(Cow::Owned([&**text, &*wire.suffix].concat()))
-    }
-
-    fn key<'a>(&self, wire: Wire<'a>) -> Result<Cow<'a, str>, &'static str> {
-        self.said(wire).and_then(|text| if is_key(&text) { Ok(text) } else { Err("InvalidKeyExpr") })
-    }
-
-    /// The least number of the longest part of whole chunks that has one, and the length of that part.
-    fn best(&self, text: &str) -> Option<(u16, usize)> {
-        if self.numbers.is_empty() {
-            return None;
-        }
-        let mut parts = std::iter::successors(Some(text), |part| parent(part));
-        parts.find_map(|part| Some((*self.numbers.get(part)?.first()?, part.len())))
-    }
-
-    fn next_id(&mut self) -> u32 {
-        self.last_id = self.last_id.wrapping_add(1);
-        while self.pending.contains_key(&self.last_id) {
-            self.last_id = self.last_id.wrapping_add(1);
-        }
-        self.last_id
-    }
-}
+pub type Answer = Result<(), &'static str>;
 
 #[derive(Clone, Copy, PartialEq)]
 enum Target {
@@ -105,7 +59,8 @@ pub struct Gateway {
     timeout: u64,
     north: usize,
     hats: BTreeMap<Region, Hat>,
-    faces: HashMap<u32, Face>,
+    pub faces: HashMap<u32, Face>,
+    pub told: Told,
     upstreams: BTreeSet<u32>,
     requests: HashMap<u64, Request>,
     deadlines: BTreeSet<(u64, u64)>,
@@ -114,6 +69,7 @@ pub struct Gateway {
     next_request: u64,
     next_reply: u64,
     last_id: u32,
+    last_known: u32,
     pub out: Vec<u8>,
 }
 
@@ -139,8 +95,8 @@ impl Gateway {
     pub fn start(&mut self, words: &[&[u8]]) -> Option<()> {
         let [b"start", face, request, reply, told, id] = words else { return None };
         let (face, request, reply) = (number(face)?, number(request)?, number(reply)?);
-        let (_told, id) = (number::<u32>(told)?, number(id)?);
-        (self.next_face, self.next_request, self.next_reply, self.last_id) = (face, request, reply, id);
+        (self.last_known, self.last_id) = (number(told)?, number(id)?);
+        (self.next_face, self.next_request, self.next_reply) = (face, request, reply);
         Some(())
     }
 
@@ -173,8 +129,9 @@ impl Gateway {
             [b"sent", reply] => self.sent(number(reply)?),
             [b"poll", now] => self.poll(number(now)?),
             [b"queryable", face, id, said, complete, distance, node] => {
-                let (_distance, _node) = (number::<u16>(distance)?, number::<u16>(node)?);
-                self.declare(number(face)?, number(id)?, wire(said)?, one_of(&["c", "p"], complete)? == "c")
+                number::<u16>(node)?;
+                let info = Info { partial: one_of(&["c", "p"], complete)? == "p", distance: number(distance)? };
+                self.declare(number(face)?, number(id)?, wire(said)?, info)
             }
             [b"unqueryable", face, id, said, node] => {
                 let (_said, _node) = (option(said, wire)?, number::<u16>(node)?);
@@ -182,6 +139,13 @@ impl Gateway {
             }
             [b"key", face, id, said] => self.name(number(face)?, number(id)?, wire(said)?),
             [b"unkey", face, id] => self.unname(number(face)?, number(id)?),
+            [b"interest", face, id, said, numbers, ref rest @ ..] => {
+                let (id, said) = (number(id)?, option(said, wire)?);
+                let (numbers, aggregate) = (one_of(&["n", "k"], numbers)? == "k", *rest == [b"a"]);
+                (aggregate || rest.is_empty()).then_some(())?;
+                self.interest(number(face)?, id, said, numbers, aggregate)
+            }
+            [b"uninterest", face, id] => self.uninterest(number(face)?, number(id)?),
             [b"open", ref words @ ..] => self.open(words)?,
             [b"close", face] => self.close(number(face)?),
             [b"finalize", face, b"initial", on] => self.mark(number(face)?, flag(on)?),
@@ -198,11 +162,11 @@ impl Gateway {
         Some(())
     }
 
-    fn face(&mut self, face: u32) -> Result<&mut Face, &'static str> {
+    pub fn face(&mut self, face: u32) -> Result<&mut Face, &'static str> {
         self.faces.get_mut(&face).ok_or("UnknownFace")
     }
 
-    fn done(&mut self) -> Answer {
+    pub fn done(&mut self) -> Answer {
         put!(&mut self.out, "= done\n");
         Ok(())
     }
@@ -230,7 +194,7 @@ impl Gateway {
             return Some(Err("UnknownRegion"));
         }
         (space.is_none() && items.is_empty() && self.mode(place) != ROUTER).then_some(())?;
-        Some(self.add_face(Face { region: place, zid, is_upstream: bound == "south", ..Face::default() }))
+        Some(self.add_face(Face::new(place, zid, bound == "south")))
     }
 
     /// What the faces of a region are: Local has clients.
@@ -242,7 +206,7 @@ impl Gateway {
         }
     }
 
-    fn add_face(&mut self, face: Face) -> Answer {
+    fn add_face(&mut self, mut face: Face) -> Answer {
         let is_north = face.region == Region::North;
         if is_north && self.north == CLIENT && !self.upstreams.is_empty() {
             return Err("UpstreamInUse");
@@ -252,8 +216,13 @@ impl Gateway {
         if is_north {
             self.upstreams.insert(number);
         }
-        self.faces.insert(number, Face { last_id: self.last_id, ..face });
+        (face.last_id, face.last_known) = (self.last_id, self.last_known);
+        self.faces.insert(number, face);
         put!(&mut self.out, "= opened ", number, "\n");
+        self.told.listen(number, is_north);
+        if is_north {
+            self.tell_all(number);
+        }
         Ok(())
     }
 
@@ -261,65 +230,64 @@ impl Gateway {
         let face = self.faces.remove(&number).ok_or("UnknownFace")?;
         self.done()?;
         self.upstreams.remove(&number);
-        if let Some(hat) = self.hats.get_mut(&face.region) {
-            for (at, complete) in face.queryables.values() {
-                hat.withdraw(number, *at, *complete);
-            }
+        self.told.listen(number, false);
+        let keys: BTreeSet<Rc<str>> = face.queryables.values().map(|it| it.key.clone()).collect();
+        let before = self.hear(keys);
+        for queryable in face.queryables.values() {
+            self.remove(number, face.region, queryable);
         }
         let mut requests: Vec<u64> = face.pending.into_values().collect();
         requests.sort_unstable();
         for request in requests {
             self.let_go(request);
         }
+        self.tell_changes(before);
         Ok(())
     }
 
     fn name(&mut self, face: u32, number: u16, wire: Wire) -> Answer {
-        let face = self.face(face)?;
-        let text: Rc<str> = face.key(wire)?.into();
-        if number == 0 || face.texts.get(&number).is_some_and(|old| *old != text) {
-            return Err("Remapped");
-        }
-        face.numbers.entry(text.clone()).or_default().insert(number);
-        face.texts.insert(number, text);
+        self.face(face)?.name(number, wire)?;
         self.done()
     }
 
     fn unname(&mut self, face: u32, number: u16) -> Answer {
-        let face = self.face(face)?;
-        let text = face.texts.remove(&number).ok_or("UnknownId")?;
-        if let Some(numbers) = face.numbers.get_mut(&text) {
-            numbers.remove(&number);
-            if numbers.is_empty() {
-                face.numbers.remove(&text);
-            }
-        }
+        self.face(face)?.unname(number)?;
         self.done()
     }
 
-    fn declare(&mut self, number: u32, id: u32, wire: Wire, complete: bool) -> Answer {
-        let face = self.faces.get_mut(&number).ok_or("UnknownFace")?;
-        let key = face.key(wire)?;
-        let hat = self.hats.get_mut(&face.region).ok_or("UnknownRegion")?;
-        let old = face.queryables.get(&id).copied();
-        if old.is_some_and(|(at, _)| hat.key(at) != key) {
+    fn declare(&mut self, number: u32, id: u32, wire: Wire, info: Info) -> Answer {
+        let face = self.face(number)?;
+        let (key, place): (Rc<str>, Region) = (face.key(wire)?.into(), face.region);
+        if face.queryables.get(&id).is_some_and(|old| old.key != key) {
             return Err("IdInUse");
         }
-        face.queryables.insert(id, (hat.declare(number, &key, complete), complete));
-        if let Some((at, complete)) = old {
-            hat.withdraw(number, at, complete);
+        self.done()?;
+        let before = self.hear([key.clone()]);
+        let at = self.hats.get_mut(&place).map_or(0, |hat| hat.declare(number, &key, !info.partial));
+        self.told.add(&key, number, place, info);
+        let face = self.face(number)?;
+        if let Some(old) = face.queryables.insert(id, Queryable { key, at, info }) {
+            self.remove(number, place, &old);
         }
-        self.done()
+        self.tell_changes(before);
+        Ok(())
     }
 
     fn withdraw(&mut self, number: u32, id: u32) -> Answer {
         let face = self.face(number)?;
-        let (at, complete) = face.queryables.remove(&id).ok_or("UnknownId")?;
-        let place = face.region;
+        let (old, place) = (face.queryables.remove(&id).ok_or("UnknownId")?, face.region);
+        self.done()?;
+        let before = self.hear([old.key.clone()]);
+        self.remove(number, place, &old);
+        self.tell_changes(before);
+        Ok(())
+    }
+
+    fn remove(&mut self, number: u32, place: Region, old: &Queryable) {
         if let Some(hat) = self.hats.get_mut(&place) {
-            hat.withdraw(number, at, complete);
+            hat.withdraw(number, old.at, !old.info.partial);
         }
-        self.done()
+        self.told.remove(&old.key, number, old.info);
     }
 
     fn mark(&mut self, face: u32, on: bool) -> Answer {
@@ -428,8 +396,8 @@ impl Gateway {
             *id = face.next_id();
             face.pending.insert(*id, number);
             put!(&mut self.out, "> ", *to, " ", number, " - request ", *id, " ");
-            let (scope, side, cut) = face.best(&key).map_or((0, ":s:", 0), |(scope, cut)| (scope, ":r:", cut));
-            put!(&mut self.out, u32::from(scope), side, Word(&key.as_bytes()[cut..]), &rest[..]);
+            let by = face.best(&key);
+            put!(&mut self.out, u32::from(by.scope), by.side, Word(&key.as_bytes()[by.cut..]), &rest[..]);
         }
         let deadline = ask.now.saturating_add(ask.timeout.unwrap_or(self.timeout));
         self.keep(

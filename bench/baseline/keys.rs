@@ -252,10 +252,6 @@ impl Hat {
         at
     }
 
-    pub fn key(&self, at: usize) -> &str {
-        self.nodes[at].declared.as_ref().map_or("", |declared| &declared.key)
-    }
-
     pub fn withdraw(&mut self, face: u32, at: usize, complete: bool) {
         let Some(declared) = &mut self.nodes[at].declared else { return };
         let Some(count) = declared.holders.get_mut(&face) else { return };
